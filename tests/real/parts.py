@@ -9,8 +9,12 @@ import subprocess
 import tempfile
 import time
 
+from spool import pending, records
+
 # Seconds that any wait may take. What is awaited comes in milliseconds; the rest is for a machine that is busy.
 LIMIT = 30.0
+# What a run says on standard error where it has no limit for servers.
+UNLIMITED = b"mcv: no --server-timeout: a server that never answers will stop all clients\n"
 # Servers take values of 1 MiB; without this memcached's own limit counts the key and the item's head too.
 ITEM_LIMIT = "2m"
 
@@ -227,11 +231,11 @@ class Machine:
         self.ends.append(server.close)
         return server
 
-    def words(self, listen="127.0.0.1:0", spool=None, sessions=None, proxies=None):
+    def words(self, listen="127.0.0.1:0", spool=None, **numbers):
+        """The words of `mcv run`; more options by their names, as server_timeout=200."""
         spool = spool or self.path("mcv.spool")
         words = [self.program, "run", "--listen", listen, "--spool", spool]
-        words += ["--sessions", str(sessions)] if sessions else []
-        return words + (["--proxies", str(proxies)] if proxies else [])
+        return words + [word for name, number in numbers.items() for word in ("--" + name.replace("_", "-"), str(number))]
 
     def config_file(self, config):
         path = self.path("config.json")
@@ -302,22 +306,6 @@ def value_answer(key, value, flags=0):
 
 def stored(key, value, flags=0):
     return b"set %s %d 0 %d\r\n%s\r\n" % (key, flags, len(value), value)
-
-
-def records(path):
-    """Of each slot of a spool file that counts: whether it is done, its server's text, the rest of its key."""
-    found, at = [], 0
-    with open(path, "rb") as file:
-        data = file.read()
-    while at + 640 < len(data) and data[at] != 0:
-        s, r = (int.from_bytes(data[at + place:at + place + 2], "big") for place in (2, 4))
-        found.append((data[at + 1] != 0, data[at + 6:at + 6 + s], data[at + 6 + s:at + 6 + s + r]))
-        at += 640
-    return found
-
-
-def pending(path):
-    return [(server, rest) for is_done, server, rest in records(path) if not is_done]
 
 
 def replayed(machine, mcv, spool, text, keys):

@@ -33,8 +33,8 @@ below_warm = refl
 abbrev heard : List Recorded
 heard = record { position = 0 ∷ []; reply = miss } ∷ record { position = 1 ∷ 0 ∷ []; reply = miss } ∷ record { position = 1 ∷ 1 ∷ []; reply = hit 7 None (120 ∷ []) } ∷ []
 
-outer_fields : fields_of two (asked Get [] None) None heard (2 ∷ []) ≡ record { flags = 7; exptime = pos 60; body = 120 ∷ []; cas = None }
+outer_fields : fields_of two (asked Get [] None) None heard (2 ∷ []) ≡ record { flags = 7; exptime = pos 60; body = 120 ∷ []; cas = None; delta = 0 }
 outer_fields = refl
 
-inner_fields : fields_of two (asked Get [] None) None heard (1 ∷ 2 ∷ []) ≡ record { flags = 7; exptime = pos 5; body = 120 ∷ []; cas = None }
+inner_fields : fields_of two (asked Get [] None) None heard (1 ∷ 2 ∷ []) ≡ record { flags = 7; exptime = pos 5; body = 120 ∷ []; cas = None; delta = 0 }
 inner_fields = refl

@@ -23,6 +23,8 @@ pub struct Fields {
     pub exptime: i64,
     pub body: Arc<Vec<u8>>,
     pub cas: Option<u64>,
+    /// By how much incr and decr change the number.
+    pub delta: u64,
 }
 
 /// What a call's leg asks its server: an add that a WarmUpRoute sends has the hit of its `warm`, and any other leg what
@@ -71,6 +73,7 @@ fn with_fields(op: Op, rest: &Arc<Rest>, fields: Fields) -> Result<LegRequest, A
         exptime: fields.exptime,
         body: fields.body,
         cas: fields.cas,
+        delta: fields.delta,
     })
 }
 
@@ -103,6 +106,7 @@ fn client_fields(alloc: Global, request: Option<&Request>) -> Result<Fields, All
             exptime: ask.exptime,
             body: Arc::try_clone(&ask.body)?,
             cas: ask.cas,
+            delta: ask.delta,
         }),
         Some(Request::Version) => no_fields(alloc),
         Some(Request::Quit) => no_fields(alloc),
@@ -134,6 +138,7 @@ fn owned_fields(alloc: Global, exptime: u32, reply: &Reply) -> Result<Fields, Al
             exptime: i64::from(exptime),
             body: Arc::try_clone(body)?,
             cas: None,
+            delta: 0,
         }),
         Reply::Miss => no_fields(alloc),
         Reply::Stored => no_fields(alloc),
@@ -142,6 +147,7 @@ fn owned_fields(alloc: Global, exptime: u32, reply: &Reply) -> Result<Fields, Al
         Reply::NotFound => no_fields(alloc),
         Reply::Deleted => no_fields(alloc),
         Reply::Touched => no_fields(alloc),
+        Reply::Number(_) => no_fields(alloc),
         Reply::Fault(_) => no_fields(alloc),
     }
 }
@@ -155,5 +161,6 @@ fn no_fields(alloc: Global) -> Result<Fields, AllocError>
         exptime: 0,
         body: Arc::new(alloc, Vec::new(alloc))?,
         cas: None,
+        delta: 0,
     })
 }

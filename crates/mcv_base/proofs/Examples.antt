@@ -1,8 +1,8 @@
 -- The definitions at small words.
 use Rattle.std.proofs.Common.{◌≡◌, ◌<◌, [], true, false, Some, None, refl, codes, lit<}
 use Rattle.std.proofs.lemmas.List.Elements.{All-cons, All-nil}
-use Rattle.mcv_base.specs.declared.operation.Op.TheVariants.{Get, Gets, Set, Add, Delete}
-use Rattle.mcv_base.specs.Reply.{may_answer, hit, miss, exists, not_found, fault}
+use Rattle.mcv_base.specs.declared.operation.Op.TheVariants.{Get, Gets, Set, Add, Delete, Touch, Incr, Decr}
+use Rattle.mcv_base.specs.Reply.{may_answer, hit, miss, exists, not_found, number, fault}
 use Rattle.mcv_base.specs.Key.{IsCut, IsHashedCut, IsName, IsRest, IsRoutingPrefix, IsKeyFault, default_prefix, hashed_part, is_key_word}
 use Rattle.mcv_base.specs.Position.{position_text}
 use Rattle.mcv_base.specs.Server.{is_host, is_port, is_server}
@@ -76,6 +76,18 @@ not_found_for_a_set = refl
 
 exists_for_an_add : may_answer Add exists ≡ false
 exists_for_an_add = refl
+
+number_for_an_incr : may_answer Incr (number 6) ≡ true
+number_for_an_incr = refl
+
+no_number_for_a_touch : may_answer Touch (number 6) ≡ false
+no_number_for_a_touch = refl
+
+not_found_for_a_decr : may_answer Decr not_found ≡ true
+not_found_for_a_decr = refl
+
+miss_for_an_incr : may_answer Incr miss ≡ false
+miss_for_an_incr = refl
 
 fault_for_a_delete : may_answer Delete (fault (codes "ERROR")) ≡ true
 fault_for_a_delete = refl

@@ -1,7 +1,7 @@
 -- The operations of the classic text protocol (memcached, protocol.txt).
-use Rattle.std.specs.Prelude.{ℕ, List, Bool, true, false, ◌==◌, codes}
+use Rattle.std.specs.Prelude.{ℕ, List, Bool, true, false, ◌==◌, ◌||◌, codes}
 use Rattle.mcv_base.specs.declared.operation.Op.{Op}
-use Rattle.mcv_base.specs.declared.operation.Op.TheVariants.{Get, Gets, Set, Add, Replace, Append, Prepend, Cas, Delete, Touch}
+use Rattle.mcv_base.specs.declared.operation.Op.TheVariants.{Get, Gets, Set, Add, Replace, Append, Prepend, Cas, Delete, Touch, Incr, Decr}
 use Rattle.mcv_base.specs.declared.operation.Mark.{Mark}
 use Rattle.mcv_base.specs.declared.operation.Mark.TheVariants.{Plain, Async, Shadow}
 use Rattle.mcv_base.specs.declared.operation.Mark.TheVariants.{Add as Added}
@@ -18,6 +18,8 @@ op_name Prepend = codes "prepend"
 op_name Cas = codes "cas"
 op_name Delete = codes "delete"
 op_name Touch = codes "touch"
+op_name Incr = codes "incr"
+op_name Decr = codes "decr"
 
 -- its place in the list of operations
 abbrev pub op_number : Op → ℕ
@@ -31,6 +33,8 @@ op_number Prepend = 6
 op_number Cas = 7
 op_number Delete = 8
 op_number Touch = 9
+op_number Incr = 10
+op_number Decr = 11
 
 abbrev pub is_same_op : Op → Op → Bool
 is_same_op a b = op_number a == op_number b
@@ -47,6 +51,27 @@ is_reading Prepend = false
 is_reading Cas = false
 is_reading Delete = false
 is_reading Touch = false
+is_reading Incr = false
+is_reading Decr = false
+
+-- an incr or decr (protocol.txt, "Increment/Decrement")
+abbrev pub is_adjusting : Op → Bool
+is_adjusting Get = false
+is_adjusting Gets = false
+is_adjusting Set = false
+is_adjusting Add = false
+is_adjusting Replace = false
+is_adjusting Append = false
+is_adjusting Prepend = false
+is_adjusting Cas = false
+is_adjusting Delete = false
+is_adjusting Touch = false
+is_adjusting Incr = true
+is_adjusting Decr = true
+
+-- an operation whose Good reply tells what value the server has: get, gets, incr and decr
+abbrev pub shows_value : Op → Bool
+shows_value op = is_reading op || is_adjusting op
 
 -- an operation that sends a value to be stored (protocol.txt, "Storage commands")
 abbrev pub is_storing : Op → Bool
@@ -60,6 +85,8 @@ is_storing Prepend = true
 is_storing Cas = true
 is_storing Delete = false
 is_storing Touch = false
+is_storing Incr = false
+is_storing Decr = false
 
 abbrev pub is_delete : Op → Bool
 is_delete Get = false
@@ -72,6 +99,8 @@ is_delete Prepend = false
 is_delete Cas = false
 is_delete Delete = true
 is_delete Touch = false
+is_delete Incr = false
+is_delete Decr = false
 
 -- a leg counts for an acknowledged delete unless it is a shadow's (own)
 abbrev pub is_counting : Mark → Bool

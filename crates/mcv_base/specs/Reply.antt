@@ -1,7 +1,7 @@
 -- What a server says to a leg (memcached, protocol.txt), and what that amounts to.
 use Rattle.std.specs.Prelude.{ℕ, List, Option, Some, None, Bool, true, false, ◌||◌, codes}
 use Rattle.std.specs.Arc.{arc_value}
-use Rattle.mcv_base.specs.Operation.{is_delete, is_reading, is_same_op, is_storing}
+use Rattle.mcv_base.specs.Operation.{is_adjusting, is_delete, is_reading, is_same_op, is_storing}
 use Rattle.mcv_base.specs.declared.operation.Op.{Op}
 use Rattle.mcv_base.specs.declared.operation.Op.TheVariants.{Get, Gets, Cas, Touch}
 use Rattle.mcv_base.specs.declared.reply.Outcome.{Outcome}
@@ -23,9 +23,10 @@ pub data ReplyValue : Type 0 where
   not_found : ReplyValue
   deleted : ReplyValue
   touched : ReplyValue
+  number : (value : ℕ) → ReplyValue
   fault : (line : List ℕ) → ReplyValue
 
--- a hit or what was done is Good, a miss or what was not done Soft, an error line Error (own)
+-- a hit, a number or what was done is Good, a miss or what was not done Soft, an error line Error (own)
 abbrev pub outcome_of : ReplyValue → Outcome
 outcome_of (hit flags cas body) = Good
 outcome_of miss = Soft
@@ -35,9 +36,10 @@ outcome_of exists = Soft
 outcome_of not_found = Soft
 outcome_of deleted = Good
 outcome_of touched = Good
+outcome_of (number value) = Good
 outcome_of (fault line) = Error
 
--- which replies a server gives which operations (protocol.txt, "Retrieval command", "Storage commands", "Deletion", "Touch" and, for faults, "Error strings"); only gets is answered the unique number of a value
+-- which replies a server gives which operations (protocol.txt, "Retrieval command", "Storage commands", "Deletion", "Increment/Decrement", "Touch" and, for faults, "Error strings"); only gets is answered the unique number of a value
 abbrev pub may_answer : Op → ReplyValue → Bool
 may_answer op (hit flags None body) = is_same_op op Get
 may_answer op (hit flags (Some cas) body) = is_same_op op Gets
@@ -45,9 +47,10 @@ may_answer op miss = is_reading op
 may_answer op stored = is_storing op
 may_answer op not_stored = is_storing op
 may_answer op exists = is_same_op op Cas
-may_answer op not_found = is_same_op op Cas || is_delete op || is_same_op op Touch
+may_answer op not_found = is_same_op op Cas || is_delete op || is_same_op op Touch || is_adjusting op
 may_answer op deleted = is_delete op
 may_answer op touched = is_same_op op Touch
+may_answer op (number value) = is_adjusting op
 may_answer op (fault line) = true
 
 abbrev pub reply_value : Reply → ReplyValue
@@ -59,6 +62,7 @@ reply_value replies.Exists = exists
 reply_value replies.NotFound = not_found
 reply_value replies.Deleted = deleted
 reply_value replies.Touched = touched
+reply_value (replies.Number value) = number value
 reply_value (replies.Fault line) = fault line.items
 
 -- what ErrorRoute replies (own)
@@ -77,6 +81,7 @@ fixed_value fixed_replies.Exists = exists
 fixed_value fixed_replies.NotFound = not_found
 fixed_value fixed_replies.Deleted = deleted
 fixed_value fixed_replies.Touched = touched
+fixed_value (fixed_replies.Number value) = number value
 fixed_value fixed_replies.ErrorRoute = fault error_route_line
 fixed_value fixed_replies.Lost = fault lost_line
 
@@ -94,6 +99,7 @@ is_small exists = true
 is_small not_found = true
 is_small deleted = true
 is_small touched = true
+is_small (number value) = true
 is_small (fault line) = false
 
 abbrev pub is_error : Outcome → Bool

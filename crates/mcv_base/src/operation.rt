@@ -1,7 +1,7 @@
 //! The operations of memcached's classic text protocol, and the marks of legs.
 
 ghost use Rattle.std.specs.Prelude.{◌≡◌, ◌≢◌, MatchOption};
-ghost use Rattle.mcv_base.specs.Operation.{is_counting, is_delete, is_reading, is_same_op, is_storing, op_name};
+ghost use Rattle.mcv_base.specs.Operation.{is_adjusting, is_counting, is_delete, is_reading, is_same_op, is_storing, op_name, shows_value};
 
 /// An operation of the classic text protocol (memcached's `protocol.txt`) that routes know.
 #[derive(Clone, Copy, Debug, PartialEq, Eq)]
@@ -16,6 +16,8 @@ pub enum Op {
     Cas,
     Delete,
     Touch,
+    Incr,
+    Decr,
 }
 
 /// Why a leg is sent: all but `Shadow` are counted when deletes are acknowledged.
@@ -47,6 +49,8 @@ impl Op {
             Op::Cas => "cas",
             Op::Delete => "delete",
             Op::Touch => "touch",
+            Op::Incr => "incr",
+            Op::Decr => "decr",
         }
     }
 
@@ -65,6 +69,8 @@ impl Op {
             b"cas" => Some(Op::Cas),
             b"delete" => Some(Op::Delete),
             b"touch" => Some(Op::Touch),
+            b"incr" => Some(Op::Incr),
+            b"decr" => Some(Op::Decr),
             _ => None,
         }
     }
@@ -81,6 +87,20 @@ impl Op {
         ensures { result ≡ is_reading self }
     {
         matches!(self, Op::Get | Op::Gets)
+    }
+
+    /// Whether it changes a number in place: incr and decr.
+    pub fn is_adjusting(self) -> bool
+        ensures { result ≡ is_adjusting self }
+    {
+        matches!(self, Op::Incr | Op::Decr)
+    }
+
+    /// Whether a Good reply to it tells what value the server has: get, gets, incr and decr.
+    pub fn shows_value(self) -> bool
+        ensures { result ≡ shows_value self }
+    {
+        self.is_reading() || self.is_adjusting()
     }
 
     /// Whether it sends a value to be stored: set, add, replace, append, prepend and cas.

@@ -11,7 +11,7 @@ use std::sync::Arc;
 /// What a reply amounts to for the handles of a route.
 #[derive(Clone, Copy, Debug, PartialEq, Eq)]
 pub enum Outcome {
-    /// A hit, or done.
+    /// A hit, a number, or done.
     Good,
     /// A miss, or not done.
     Soft,
@@ -65,6 +65,8 @@ pub enum Reply {
     NotFound,
     Deleted,
     Touched,
+    /// The new number, for incr and decr.
+    Number(u64),
     /// An error line (`ERROR`, `CLIENT_ERROR ..` or `SERVER_ERROR ..`), without its end.
     Fault(Vec<u8>),
 }
@@ -79,6 +81,8 @@ pub enum FixedReply {
     NotFound,
     Deleted,
     Touched,
+    /// The new number, for incr and decr.
+    Number(u64),
     /// `SERVER_ERROR error route`
     ErrorRoute,
     /// `SERVER_ERROR destination failed`
@@ -117,7 +121,11 @@ impl Reply {
         ensures { result ≡ outcome_of (reply_value self.now) }
     {
         match self {
-            Reply::Hit { .. } | Reply::Stored | Reply::Deleted | Reply::Touched => Outcome::Good,
+            Reply::Hit { .. }
+            | Reply::Stored
+            | Reply::Deleted
+            | Reply::Touched
+            | Reply::Number(_) => Outcome::Good,
             Reply::Miss | Reply::NotFound | Reply::NotStored | Reply::Exists => Outcome::Soft,
             Reply::Fault(_) => Outcome::Error,
         }
@@ -133,9 +141,12 @@ impl Reply {
             Reply::Miss => op.is_reading(),
             Reply::Stored | Reply::NotStored => op.is_storing(),
             Reply::Exists => op.is(Op::Cas),
-            Reply::NotFound => op.is(Op::Cas) || op.is_delete() || op.is(Op::Touch),
+            Reply::NotFound => {
+                op.is(Op::Cas) || op.is_delete() || op.is(Op::Touch) || op.is_adjusting()
+            }
             Reply::Deleted => op.is_delete(),
             Reply::Touched => op.is(Op::Touch),
+            Reply::Number(_) => op.is_adjusting(),
             Reply::Fault(_) => true,
         }
     }
@@ -147,7 +158,10 @@ impl FixedReply {
         ensures { result ≡ outcome_of (fixed_value self) }
     {
         match self {
-            FixedReply::Stored | FixedReply::Deleted | FixedReply::Touched => Outcome::Good,
+            FixedReply::Stored
+            | FixedReply::Deleted
+            | FixedReply::Touched
+            | FixedReply::Number(_) => Outcome::Good,
             FixedReply::Miss | FixedReply::NotFound | FixedReply::NotStored | FixedReply::Exists =>
                 { Outcome::Soft }
             FixedReply::ErrorRoute | FixedReply::Lost => Outcome::Error,
@@ -162,9 +176,12 @@ impl FixedReply {
             FixedReply::Miss => op.is_reading(),
             FixedReply::Stored | FixedReply::NotStored => op.is_storing(),
             FixedReply::Exists => op.is(Op::Cas),
-            FixedReply::NotFound => op.is(Op::Cas) || op.is_delete() || op.is(Op::Touch),
+            FixedReply::NotFound => {
+                op.is(Op::Cas) || op.is_delete() || op.is(Op::Touch) || op.is_adjusting()
+            }
             FixedReply::Deleted => op.is_delete(),
             FixedReply::Touched => op.is(Op::Touch),
+            FixedReply::Number(_) => op.is_adjusting(),
             FixedReply::ErrorRoute | FixedReply::Lost => true,
         }
     }
@@ -206,6 +223,7 @@ impl Parts {
             Reply::NotFound => Ok(Parts::fixed(FixedReply::NotFound)),
             Reply::Deleted => Ok(Parts::fixed(FixedReply::Deleted)),
             Reply::Touched => Ok(Parts::fixed(FixedReply::Touched)),
+            Reply::Number(value) => Ok(Parts::fixed(FixedReply::Number(value))),
             Reply::Hit { flags, cas, body } => Parts::shared(
                 alloc,
                 Reply::Hit { flags, cas, body },

@@ -60,6 +60,8 @@ pub struct Ask {
     pub exptime: i64,
     pub body: Arc<Vec<u8>>,
     pub cas: Option<u64>,
+    /// By how much incr and decr change the number.
+    pub delta: u64,
     pub noreply: bool,
 }
 
@@ -80,4 +82,6 @@ pub struct LegRequest {
     pub exptime: i64,
     pub body: Arc<Vec<u8>>,
     pub cas: Option<u64>,
+    /// By how much incr and decr change the number.
+    pub delta: u64,
 }

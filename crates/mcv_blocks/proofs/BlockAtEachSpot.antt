@@ -7,7 +7,7 @@ use Rattle.std.proofs.lemmas.Bool.{false≢true}
 use Rattle.std.proofs.lemmas.List.Elements.{All-cons, All-nil, Contains-append_right}
 use Rattle.std.proofs.lemmas.List.Kept.{AllPairs-cons}
 use Rattle.mcv_base.specs.declared.operation.Op.{Op}
-use Rattle.mcv_base.specs.declared.operation.Op.TheVariants.{Delete, Get, Gets}
+use Rattle.mcv_base.specs.declared.operation.Op.TheVariants.{Delete, Get, Gets, Incr, Decr}
 use Rattle.mcv_base.specs.declared.reply.Outcome.{Outcome}
 use Rattle.mcv_base.specs.declared.reply.Outcome.TheVariants.{Good, Soft, Error}
 use Rattle.mcv_cert.specs.Pair.{list_cmp}
@@ -15,7 +15,7 @@ use Rattle.mcv_classes.specs.Class.{IsBefore, IsMember}
 use Rattle.mcv_classes.specs.Words.{class_words}
 use Rattle.mcv_judge.specs.Faults.{AreLegsRising}
 use Rattle.mcv_judge.specs.Reason.{BlockValue, LegValue}
-use Rattle.mcv_route.proofs.Readings.{get_or_gets}
+use Rattle.mcv_route.proofs.Readings.{one_of_four}
 use Rattle.mcv_route.specs.Outcomes.{Choice}
 use Rattle.mcv_route.specs.Places.{pool_at_position}
 use Rattle.mcv_route.specs.Routes.{RoutesValue}
@@ -36,7 +36,7 @@ use Rattle.mcv_symbolic.proofs.PoolOfLeg.{leaf_of, acknowledged_are_there, hits_
 use Rattle.mcv_symbolic.proofs.SetsRise.{acknowledged_rise, hits_rise}
 use Rattle.mcv_blocks.specs.Blocks.{AreLeavesAt, IsAcknowledgedAt, pool_for, positions_of}
 use Rattle.mcv_blocks.specs.MergedLegs.{merge}
-use Rattle.mcv_blocks.specs.Spots.{AreClassesInEras, ClassInEra, IsBlockFor, IsClassInEra, spot_of}
+use Rattle.mcv_blocks.specs.Spots.{AreClassesInEras, ClassInEras, IsBlockFor, IsClassInEras, spot_of}
 use Rattle.mcv_blocks.proofs.MergesRise.{merged_leaves}
 
 -- a leg of a plan as a block has it
@@ -82,7 +82,7 @@ leaves-at t P ls rise only every = record {
 any : Choice
 any s = 0
 
--- a get, or a gets, can be answered from the position under some choice
+-- the operation can be answered from the position under some choice
 abbrev CanHit : Tree → Op → List ℕ → Option ℕ → List ℕ → Type 0
 CanHit t op rest since p = (c : Choice) × CanHitAt t (asked op rest since) c p
 
@@ -100,16 +100,31 @@ acknowledged-leaves t rest since =
     (λ l i. let h = marks.acknowledged_is (plan t s) l i in (acknowledged_are_there t s l refl h, λ c. (acknowledged_is_exact t rest since c l.position).1 (l, h, refl)))
     (λ p h. let k = (acknowledged_is_exact t rest since any p).0 (h any) in (k.0, marks.is_acknowledged (plan t s) k.0 k.1, k.2))
 
--- a get or a gets
-pub either_hit : (t : Tree) (rest : List ℕ) (since : Option ℕ) (p : List ℕ) → IsReadableAt t rest since p → CanHit t Get rest since p ⊎ CanHit t Gets rest since p
-either_hit t rest since p h = get_or_gets (λ op. CanHit t op rest since p) h.0 h.1 (h.2, h.3)
+by-reading : (t : Tree) (rest : List ℕ) (since : Option ℕ) (p : List ℕ) → CanHit t Get rest since p ⊎ CanHit t Gets rest since p → IsReadableAt t rest since p
+by-reading t rest since p (inl h) = (Get, refl, h.0, h.1)
+by-reading t rest since p (inr h) = (Gets, refl, h.0, h.1)
+
+by-adjusting : (t : Tree) (rest : List ℕ) (since : Option ℕ) (p : List ℕ) → CanHit t Incr rest since p ⊎ CanHit t Decr rest since p → IsReadableAt t rest since p
+by-adjusting t rest since p (inl h) = (Incr, refl, h.0, h.1)
+by-adjusting t rest since p (inr h) = (Decr, refl, h.0, h.1)
+
+-- the leaves from which get, gets, incr and decr can be answered, merged
+pub readable_by_four : (t : Tree) (rest : List ℕ) (since : Option ℕ) (get gets incr decr : List LegValue) → AreLeavesAt t (CanHit t Get rest since) get → AreLeavesAt t (CanHit t Gets rest since) gets → AreLeavesAt t (CanHit t Incr rest since) incr
+    → AreLeavesAt t (CanHit t Decr rest since) decr → AreLeavesAt t (IsReadableAt t rest since) (merge (merge get gets) (merge incr decr))
+readable_by_four t rest since get gets incr decr a b d e =
+    let H : Op → List ℕ → Type 0 = λ op. CanHit t op rest since in
+    let Read : List ℕ → Type 0 = λ p. H Get p ⊎ H Gets p in
+    let Adjusted : List ℕ → Type 0 = λ p. H Incr p ⊎ H Decr p in
+    merged_leaves t Read Adjusted (IsReadableAt t rest since) (by-reading t rest since) (by-adjusting t rest since)
+    (λ p h. one_of_four (λ op. H op p) h.0 h.1 (h.2, h.3)) (merge get gets) (merge incr decr)
+    (merged_leaves t (H Get) (H Gets) Read (λ p h. inl h) (λ p h. inr h) (λ p h. h) get gets a b)
+    (merged_leaves t (H Incr) (H Decr) Adjusted (λ p h. inl h) (λ p h. inr h) (λ p h. h) incr decr d e)
 
 readable-leaves : (t : Tree) (rest : List ℕ) (since : Option ℕ) → (ls : List LegValue) × AreLeavesAt t (IsReadableAt t rest since) ls
 readable-leaves t rest since =
-    let get = leaves (hits (plan t (asked Get rest since))) in
-    let gets = leaves (hits (plan t (asked Gets rest since))) in (
-      merge get gets,
-      merged_leaves t (CanHit t Get rest since) (CanHit t Gets rest since) (IsReadableAt t rest since) (λ p h. (Get, refl, h.0, h.1)) (λ p h. (Gets, refl, h.0, h.1)) (either_hit t rest since) get gets (hit-leaves t Get rest since) (hit-leaves t Gets rest since),
+    let by : Op → List LegValue = λ op. leaves (hits (plan t (asked op rest since))) in (
+      merge (merge (by Get) (by Gets)) (merge (by Incr) (by Decr)),
+      readable_by_four t rest since (by Get) (by Gets) (by Incr) (by Decr) (hit-leaves t Get rest since) (hit-leaves t Gets rest since) (hit-leaves t Incr rest since) (hit-leaves t Decr rest since),
     )
 
 can-or-never : (t : Tree) (rest : List ℕ) (since : Option ℕ) (x : Outcome) → if_all Good (plan t (asked Delete rest since)) ≡ x → (can : Bool) × ((can ≡ false) ↔ IsNeverAcknowledged t rest since)
@@ -119,14 +134,14 @@ can-or-never t rest since Error e = (false, (λ f c can. (done_is_exact t rest s
 
 -- ---- the blocks
 
-pub block_exists : (r : RoutesValue) (s : ClassInEra) → IsClassInEra r s → (b : BlockValue) × IsBlockFor r s b
+pub block_exists : (r : RoutesValue) (s : ClassInEras) → IsClassInEras r s → (b : BlockValue) × IsBlockFor r s b
 block_exists r s is = by s.class.class.member refl is.0.listed.member is.0.listed.some
   where
     by : (m : Option (List ℕ)) → s.class.class.member ≡ m → IsMember (class_words is.0.entry.tree) s.class.class.word s.class.class.member → IsSome s.class.class.member → (b : BlockValue) × IsBlockFor r s b
     by None e member some = absurd (false≢true (subst IsSome e some))
     by (Some m) e member some =
         let t = is.0.entry.tree in
-        let readable = readable-leaves t m is.1.0 in
+        let readable = readable-leaves t m is.1.1 in
         let can = can-or-never t m is.1.0 (if_all Good (plan t (asked Delete m is.1.0))) refl in
         let b : BlockValue =
         record {
@@ -142,13 +157,14 @@ block_exists r s is = by s.class.class.member refl is.0.listed.member is.0.liste
               tree = t;
               member = m;
               since = is.1.0;
-              spot = record { entry = is.0.entry; numbered = is.0.numbered; has_tree = refl; listed = is.0.listed.word; has_member = subst (IsMember (class_words t) s.class.class.word) e member; opened = is.1.1 };
+              read = is.1.1;
+              spot = record { entry = is.0.entry; numbered = is.0.numbered; has_tree = refl; listed = is.0.listed.word; has_member = subst (IsMember (class_words t) s.class.class.word) e member; opened = is.1.2; read_opened = is.1.3; near = is.1.4 };
               has = record { readable = readable.1; acknowledged = acknowledged-leaves t m is.1.0; never = can.1 };
             };
           },
         )
 
-pub blocks_exist : (r : RoutesValue) (ss : List ClassInEra) → AreClassesInEras r ss → (bs : List BlockValue) × AllZip (IsBlockFor r) ss bs
+pub blocks_exist : (r : RoutesValue) (ss : List ClassInEras) → AreClassesInEras r ss → (bs : List BlockValue) × AllZip (IsBlockFor r) ss bs
 blocks_exist r [] h = ([], tt)
 blocks_exist r (s ∷ ss) h =
     let first = block_exists r s h.0 in

@@ -7,12 +7,12 @@ use Rattle.std.proofs.lemmas.Bool.{and_parts, leb-true}
 use Rattle.std.proofs.lemmas.List.Elements.{All-cons, All-nil}
 use Rattle.std.proofs.lemmas.List.Kept.{AllPairs-cons}
 use Rattle.std.proofs.lemmas.Option.{none-some, same_Some}
-use Rattle.mcv_base.specs.declared.operation.Op.TheVariants.{Get, Gets, Delete}
+use Rattle.mcv_base.specs.declared.operation.Op.TheVariants.{Get, Gets, Delete, Incr, Decr}
 use Rattle.mcv_base.specs.declared.reply.Outcome.{Outcome}
 use Rattle.mcv_base.specs.declared.reply.Outcome.TheVariants.{Good, Error}
 use Rattle.mcv_pools.specs.declared.symbol.HashFunc.TheVariants.{Ch3}
 use Rattle.mcv_symbolic.specs.Sets.{CanHitAt}
-use Rattle.mcv_route.proofs.Readings.{get_or_gets}
+use Rattle.mcv_route.proofs.Readings.{each_of_four}
 use Rattle.mcv_route.specs.Outcomes.{Choice}
 use Rattle.mcv_route.specs.Places.{pool_at_position}
 use Rattle.mcv_route.specs.Routes.{IsSoundRoutes, IsSoundTree, RouteEntry, RoutesValue}
@@ -55,7 +55,7 @@ abbrev entry : RouteEntry
 entry = record { aliases = []; tree = tree }
 
 abbrev routes : RoutesValue
-routes = record { servers = (97 ∷ []) ∷ (98 ∷ []) ∷ []; symbols = record { func = Ch3; salt = []; n = 2 } ∷ record { func = Ch3; salt = []; n = 1 } ∷ []; entries = entry ∷ [] }
+routes = record { servers = (97 ∷ []) ∷ (98 ∷ []) ∷ []; symbols = record { func = Ch3; salt = []; n = 2 } ∷ record { func = Ch3; salt = []; n = 1 } ∷ []; entries = entry ∷ []; window = 0 }
 
 one_server : (k : ℕ) → k < 2 → All (λ s. s < 2) (k ∷ [])
 one_server k low = All-cons (λ s. s < 2) k [] low (All-nil (λ s. s < 2))
@@ -81,7 +81,7 @@ abbrev second_leg : LegValue
 second_leg = record { position = 0 ∷ 1 ∷ []; symbol = 1; servers = 1 ∷ [] }
 
 abbrev spot : SpotValue
-spot = record { route = 0; class = []; era = 0 }
+spot = record { route = 0; class = []; era = 0; get_era = 0 }
 
 abbrev block : BlockValue
 block = record { spot = spot; readable = leaf ∷ []; acknowledged = first_leg ∷ second_leg ∷ []; can_be_acknowledged = true }
@@ -95,10 +95,11 @@ any s = 0
 
 readable_there : (p : List ℕ) → IsReadableAt tree member None p → (1 ∷ []) ≡ p
 readable_there p h =
-    elim (get_or_gets (λ op. CanHitAt tree (asked op member None) h.2 p) h.0 h.1 h.3) [
-      | inl g ↦ let l = (hits_are_exact tree Get member None h.2 p).0 g in ap (λ (k : Leg). k.position) l.1 ∙ l.2
-      | inr g ↦ let l = (hits_are_exact tree Gets member None h.2 p).0 g in ap (λ (k : Leg). k.position) l.1 ∙ l.2
-    ]
+    each_of_four (λ op. CanHitAt tree (asked op member None) h.2 p → (1 ∷ []) ≡ p)
+    (λ g. let l = (hits_are_exact tree Get member None h.2 p).0 g in ap (λ (k : Leg). k.position) l.1 ∙ l.2)
+    (λ g. let l = (hits_are_exact tree Gets member None h.2 p).0 g in ap (λ (k : Leg). k.position) l.1 ∙ l.2)
+    (λ g. let l = (hits_are_exact tree Incr member None h.2 p).0 g in ap (λ (k : Leg). k.position) l.1 ∙ l.2)
+    (λ g. let l = (hits_are_exact tree Decr member None h.2 p).0 g in ap (λ (k : Leg). k.position) l.1 ∙ l.2) h.0 h.1 h.3
 
 readable_here : IsReadableAt tree member None (1 ∷ [])
 readable_here = (Get, refl, any, (hits_are_exact tree Get member None any (1 ∷ [])).1 (plans.leg_of hashed (under 1 (asked Get member None)), refl, refl))
@@ -165,7 +166,7 @@ byte_not_listed b at =
 from_33 : (c : ℕ) → IsFree (class_words tree) c → 33 ≤ c
 from_33 c free = leb-true 33 c (and_parts (nat_le 33 c) (not (c == 127)) free.key).0
 
-is_spot : IsSpotOf routes spot tree member None
+is_spot : IsSpotOf routes spot tree member None None
 is_spot = record {
   entry = entry;
   numbered = refl;
@@ -173,6 +174,8 @@ is_spot = record {
   listed = (0, omega arith, refl);
   has_member = (33, refl, record { small = omega arith; key = refl; unlisted = byte_not_listed 33 }, from_33);
   opened = refl;
+  read_opened = refl;
+  near = inl refl;
 }
 
 is_block : IsBlockOf routes block
@@ -180,6 +183,7 @@ is_block = record {
   tree = tree;
   member = member;
   since = None;
+  read = None;
   spot = is_spot;
   has = record { readable = readable_leaves; acknowledged = acknowledged_leaves; never = can_be };
 }
@@ -197,8 +201,8 @@ only_class class at =
       | inr h ↦ absurd (none_there class h)
     ]
 
-only_era : (s : SpotValue) (t : Tree) (m : List ℕ) (since : Option ℕ) → IsSpotOf routes s t m since → 0 ≡ s.era
-only_era s t m since is = by s.era since is.opened
+only_era : (era : ℕ) (z : Option ℕ) → IsEraOf routes era z → 0 ≡ era
+only_era era z opened = by era z opened
   where
     no_break : (k : ℕ) (z : Option ℕ) → IsEra routes z → (z ≢ None) → 0 ≡ suc k
     no_break k None h some = absurd (some refl)
@@ -208,13 +212,14 @@ only_era s t m since is = by s.era since is.opened
     by zero z opened = refl
     by (suc k) z opened = no_break k z (era_there routes (suc k) z opened) opened.3
 
-has_block : (s : SpotValue) (t : Tree) (m : List ℕ) (since : Option ℕ) → IsSpotOf routes s t m since → HasBlockFor (block ∷ []) s
-has_block s t m since is =
+has_block : (s : SpotValue) (t : Tree) (m : List ℕ) (since read : Option ℕ) → IsSpotOf routes s t m since read → HasBlockFor (block ∷ []) s
+has_block s t m since read is =
     let route_is = only_route s.route is.entry is.numbered in
     let t_is : tree ≡ t = ap (λ (e : RouteEntry). e.tree) route_is.1 ∙ is.has_tree in
     let class_is = only_class s.class (subst (λ x. Contains (class_words x) s.class) (sym t_is) is.listed) in
-    let era_is = only_era s t m since is in
-    (block, at_first block [] block refl, λ i. record { route = route_is.0 i; class = class_is i; era = era_is i })
+    let era_is = only_era s.era since is.opened in
+    let get_era_is = only_era s.get_era read is.read_opened in
+    (block, at_first block [] block refl, λ i. record { route = route_is.0 i; class = class_is i; era = era_is i; get_era = get_era_is i })
 
 are_blocks : AreBlocksOf routes (block ∷ [])
 are_blocks = record {
@@ -248,9 +253,9 @@ in_order = record {
 certified : AreRising pairs × IsFaultless pairs (block ∷ [])
 certified = answered_faultless (block ∷ []) pairs in_order answered
 
-is_justified : IsJustifiedBy routes pairs
-is_justified = (block ∷ [], are_blocks, certified.1)
+is_justified : IsJustifiedBy routes (record { window = 0; pairs = pairs })
+is_justified = (refl, (block ∷ [], are_blocks, certified.1))
 
 -- every key, every choice, every outcome that can come
 are_covered : AreCovered routes
-are_covered = justified_is_covered covered_by_members routes pairs sound certified.0 is_justified
+are_covered = justified_is_covered covered_by_members routes (record { window = 0; pairs = pairs }) sound certified.0 is_justified

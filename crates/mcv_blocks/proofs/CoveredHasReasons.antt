@@ -65,7 +65,7 @@ module _ (legs : List LegValue) (own : (d : LegValue) → Contains legs d → le
 pub reason_by_none : (b : BlockValue) (leaf : LegValue) (i : ℕ) → b.can_be_acknowledged ≡ false → HasReason b leaf i
 reason_by_none b leaf i can = (never, inl refl, ap (λ c. if c then Some CanBeAcknowledged else None) can)
 
-module _ (sizes : List ℕ) (t : Tree) (rest : List ℕ) (since : Option ℕ) (positive : All (λ n. 0 < n) sizes) (sized : AreSized sizes t) (b : BlockValue) (block : IsBlockAt t rest since b) where
+module _ (sizes : List ℕ) (t : Tree) (rest : List ℕ) (since read : Option ℕ) (positive : All (λ n. 0 < n) sizes) (sized : AreSized sizes t) (b : BlockValue) (block : IsBlockAt t rest since read b) where
   leg_found : (d : LegValue) → Contains b.acknowledged d → leg_at b.acknowledged d.position ≡ Some d
   leg_found d at =
       finds_one (λ (c : LegValue). is_same_list c.position d.position) b.acknowledged d at (ap is_eq (tied_itself nat_list_cmp_total d.position))
@@ -125,12 +125,12 @@ module _ (sizes : List ℕ) (t : Tree) (rest : List ℕ) (since : Option ℕ) (p
           | inr other ↦ by_other h.0 h.1 (λ j below. h.2 j below (λ e. absurd (other e)))
         ]
 
-    pub by_justified : Contains b.readable leaf → IsJustified sizes t rest since → HasReason b leaf i
+    pub by_justified : Contains b.readable leaf → IsJustified sizes t rest since read → HasReason b leaf i
     by_justified readable (inl none) = reason_by_none b leaf i (block.never.1 none)
     by_justified readable (inr answered) =
-        let pool_there = pool_of_leg t (IsReadableAt t rest since) b.readable block.readable leaf readable in
+        let pool_there = pool_of_leg t (IsReadableAt t rest read) b.readable block.readable leaf readable in
         let size : slice_index sizes leaf.symbol ≡ length leaf.servers = (sized leaf.position (pool_for leaf) pool_there).1 in
-        let can_be_read : IsReadableAt t rest since leaf.position = has_property t (IsReadableAt t rest since) b.readable block.readable leaf readable in
+        let can_be_read : IsReadableAt t rest read leaf.position = has_property t (IsReadableAt t rest read) b.readable block.readable leaf readable in
         by_answer size (answered leaf.position (pool_for leaf) i can_be_read pool_there (omega (arith, low, size)))
 
 -- ---- the whole
@@ -150,6 +150,6 @@ covered_has_reasons by_members r b leaf i sound positive covered own bytes reada
     let rest = member_rest (class_words own.tree) b.spot.class own.member bytes at_spot.has_member in
     let listed = subst (λ t. Contains (class_words t) b.spot.class) (sym tree) at_spot.listed in
     let has = subst (λ t. IsMember (class_words t) b.spot.class (Some own.member)) (sym tree) at_spot.has_member in
-    let is = (by_members r sound).0 covered e b.spot.class own.member own.since at listed has rest (era_there r b.spot.era own.since at_spot.opened) in
-    let block = subst (λ t. IsBlockAt t own.member own.since b) (sym tree) own.has in
-    by_justified (sizes_of r) e.tree own.member own.since positive (entry_sized r e sound at) b block leaf i low readable is
+    let is = (by_members r sound).0 covered e b.spot.class own.member own.since own.read at listed has rest (era_there r b.spot.era own.since at_spot.opened) (era_there r b.spot.get_era own.read at_spot.read_opened) at_spot.near in
+    let block = subst (λ t. IsBlockAt t own.member own.since own.read b) (sym tree) own.has in
+    by_justified (sizes_of r) e.tree own.member own.since own.read positive (entry_sized r e sound at) b block leaf i low readable is

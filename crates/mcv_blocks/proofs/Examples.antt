@@ -9,7 +9,7 @@ abbrev leaf : LegValue
 leaf = record { position = 1 ∷ []; symbol = 0; servers = 7 ∷ 8 ∷ [] }
 
 abbrev spot : SpotValue
-spot = record { route = 0; class = []; era = 0 }
+spot = record { route = 0; class = []; era = 0; get_era = 0 }
 
 abbrev block : BlockValue
 block = record { spot = spot; readable = leaf ∷ []; acknowledged = record { position = 0 ∷ []; symbol = 0; servers = 7 ∷ 9 ∷ [] } ∷ []; can_be_acknowledged = true }

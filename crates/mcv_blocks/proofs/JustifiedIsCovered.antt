@@ -10,7 +10,7 @@ use Rattle.mcv_route.specs.Routes.{RouteEntry, RoutesValue, IsSoundRoutes}
 use Rattle.mcv_route.specs.Tree.{Pool, Tree}
 use Rattle.mcv_classes.specs.Class.{IsMember}
 use Rattle.mcv_classes.specs.Words.{class_words}
-use Rattle.mcv_route.specs.Eras.{IsEra}
+use Rattle.mcv_route.specs.Eras.{IsEra, IsNear}
 use Rattle.mcv_symbolic.specs.CoveredRoutes.{CoveredByMembers, sizes_of}
 use Rattle.mcv_symbolic.specs.JustifiedRoutes.{IsAcknowledgedPool, IsAnswered, IsJustified, IsNeverAcknowledged, IsReadableAt}
 use Rattle.mcv_cert.specs.Pair.{AreRising, PairValue, ReasonValue, SpotValue, never, twin, same, all, index_of, list_cmp}
@@ -78,7 +78,7 @@ each_has legs s x k (p ∷ ps) h (suc j) m low e =
 
 -- ---- a reason answers
 
-module _ (sizes : List ℕ) (t : Tree) (rest : List ℕ) (since : Option ℕ) (sized : AreSized sizes t) (b : BlockValue) (block : IsBlockAt t rest since b) where
+module _ (sizes : List ℕ) (t : Tree) (rest : List ℕ) (since read : Option ℕ) (sized : AreSized sizes t) (b : BlockValue) (block : IsBlockAt t rest since read b) where
   acknowledged : (d : LegValue) → Contains b.acknowledged d → IsAcknowledgedPool t rest since (pool_for d)
   acknowledged d at = (
     d.position,
@@ -140,13 +140,13 @@ module _ (sizes : List ℕ) (t : Tree) (rest : List ℕ) (since : Option ℕ) (s
             by_all ps (subst (λ n. fill_a_symbol b.acknowledged (server_at leaf n) ps ≡ true) e (no_fault_in_all (is_one_missing b.acknowledged ps) (fill_a_symbol b.acknowledged (server_at leaf k) ps) f))
 
   -- a block all of whose readable leaves have reasons
-  pub justified : ((leaf : LegValue) → Contains b.readable leaf → (i : ℕ) → i < length leaf.servers → HasReason b leaf i) → IsJustified sizes t rest since
+  pub justified : ((leaf : LegValue) → Contains b.readable leaf → (i : ℕ) → i < length leaf.servers → HasReason b leaf i) → IsJustified sizes t rest since read
   justified reasons =
       elim (cases_Bool b.can_be_acknowledged) [
         | inr cannot ↦ inl (block.never.0 cannot)
         | inl can ↦ inr (λ p leaf i readable pool low.
-            let l = leg_there t (IsReadableAt t rest since) b.readable block.readable p readable in
-            let pool_there = pool_of_leg t (IsReadableAt t rest since) b.readable block.readable l.0 l.1 in
+            let l = leg_there t (IsReadableAt t rest read) b.readable block.readable p readable in
+            let pool_there = pool_of_leg t (IsReadableAt t rest read) b.readable block.readable l.0 l.1 in
             let own : pool_for l.0 ≡ leaf = same_Some (pool_for l.0) leaf (sym pool_there ∙ ap (pool_at_position t) l.2 ∙ pool) in
             let size = sized p leaf pool in
             let below : i < length l.0.servers = omega (arith, low, size.1, ap (λ (m : Pool). length m.servers) own) in
@@ -160,18 +160,20 @@ module _ (sizes : List ℕ) (t : Tree) (rest : List ℕ) (since : Option ℕ) (s
 -- ---- the whole
 
 module _ (r : RoutesValue) (pairs : List PairValue) (sound : IsSoundRoutes r) (up : AreRising pairs) (blocks : List BlockValue) (are : AreBlocksOf r blocks) (fine : IsFaultless pairs blocks) where
-  at_member : (e : RouteEntry) (word member : List ℕ) (since : Option ℕ) → Contains r.entries e → Contains (class_words e.tree) word → IsMember (class_words e.tree) word (Some member) → IsEra r since → IsJustified (sizes_of r) e.tree member since
-  at_member e word member since at listed has era =
+  at_member : (e : RouteEntry) (word member : List ℕ) (since read : Option ℕ) → Contains r.entries e → Contains (class_words e.tree) word → IsMember (class_words e.tree) word (Some member) → IsEra r since → IsEra r read
+      → IsNear r r.window since read → IsJustified (sizes_of r) e.tree member since read
+  at_member e word member since read at listed has era other near =
       let number = era_numbered r since era in
-      let spot : SpotValue = record { route = at.0; class = word; era = number.0 } in
-      let is : IsSpotOf r spot e.tree member since =
-      record { entry = e; numbered = slice_get-get_or r.entries at.0 e at.1 ∙ ap Some at.2; has_tree = refl; listed = listed; has_member = has; opened = number.1 } in
-      let b = are.all spot e.tree member since is in
+      let get_number = era_numbered r read other in
+      let spot : SpotValue = record { route = at.0; class = word; era = number.0; get_era = get_number.0 } in
+      let is : IsSpotOf r spot e.tree member since read =
+      record { entry = e; numbered = slice_get-get_or r.entries at.0 e at.1 ∙ ap Some at.2; has_tree = refl; listed = listed; has_member = has; opened = number.1; read_opened = get_number.1; near = near } in
+      let b = are.all spot e.tree member since read is in
       let own = All-contains (IsBlockOf r) blocks b.0 are.only b.1 in
-      let block = block_has r spot e.tree member since is b.0 own b.2 in
-      justified (sizes_of r) e.tree member since (entry_sized r e sound at) b.0 block
+      let block = block_has r spot e.tree member since read is b.0 own b.2 in
+      justified (sizes_of r) e.tree member since read (entry_sized r e sound at) b.0 block
       (λ leaf readable i low. has_reason pairs blocks up fine b.0 leaf (required_there r blocks are b.0 b.1 leaf readable) i low)
 
 pub justified_is_covered : CoveredByMembers → JustifiedIsCovered
-justified_is_covered by_members r pairs sound up given =
-    (by_members r sound).1 (λ e word member since at listed has rest era. at_member r pairs sound up given.0 given.1 given.2 e word member since at listed has era)
+justified_is_covered by_members r c sound up given =
+    (by_members r sound).1 (λ e word member since read at listed has rest era other near. at_member r c.pairs sound up given.1.0 given.1.1 given.1.2 e word member since read at listed has era other near)

@@ -10,5 +10,7 @@ pub mod BlocksOfSpots
 pub mod BlockAtEachSpot
 pub mod Parts
 pub mod BlockOfSets
+pub mod SetsEraByEra
+pub mod SpotsInTurn
 mod Examples
 mod CoveredExample

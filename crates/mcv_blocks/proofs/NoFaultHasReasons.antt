@@ -42,12 +42,14 @@ list_equal (x ∷ xs) (y ∷ ys) h =
 
 spot_equal : (s z : SpotValue) → spot_cmp s z ≡ Equal → s ≡ z
 spot_equal s z h =
-    let a = then_equal (ordering_then (nat_cmp s.route z.route) (list_cmp s.class z.class)) (nat_cmp s.era z.era) h in
+    let all = then_equal (ordering_then (ordering_then (nat_cmp s.route z.route) (list_cmp s.class z.class)) (nat_cmp s.era z.era)) (nat_cmp s.get_era z.get_era) h in
+    let a = then_equal (ordering_then (nat_cmp s.route z.route) (list_cmp s.class z.class)) (nat_cmp s.era z.era) all.0 in
     let b = then_equal (nat_cmp s.route z.route) (list_cmp s.class z.class) a.0 in
     let route = nat_equal s.route z.route b.0 in
     let class = list_equal s.class z.class b.1 in
     let era = nat_equal s.era z.era a.1 in
-    λ i. record { route = route i; class = class i; era = era i }
+    let get_era = nat_equal s.get_era z.get_era all.1 in
+    λ i. record { route = route i; class = class i; era = era i; get_era = get_era i }
 
 place_equal : (s z : PlaceValue) → place_cmp s z ≡ Equal → s ≡ z
 unfolding place_cmp
@@ -85,7 +87,7 @@ module _ (r : RoutesValue) (blocks : List BlockValue) (are : AreBlocksOf r block
   same_required c l there own e =
       let block : c ≡ b = one_block r c b (All-contains (IsBlockOf r) blocks c are.only there) is_block (ap (λ (z : PlaceValue). z.spot) e) in
       let here : Contains b.readable l = subst (λ x. Contains x.readable l) block own in
-      let leg : l ≡ leaf = one_leg is_block.tree (IsReadableAt is_block.tree is_block.member is_block.since) b.readable is_block.has.readable l leaf here readable (ap (λ (z : PlaceValue). z.leaf) e) in
+      let leg : l ≡ leaf = one_leg is_block.tree (IsReadableAt is_block.tree is_block.member is_block.read) b.readable is_block.has.readable l leaf here readable (ap (λ (z : PlaceValue). z.leaf) e) in
       λ i. require (block i) (leg i)
 
   one_required : (o : Required) → Contains (flat_map required_by blocks) o → is_eq (place_cmp (place_required o) (place_required (require b leaf))) ≡ true → o ≡ require b leaf

@@ -60,18 +60,19 @@ one_member words [] m n h g =
     h.1 ∙ ap (λ b. b ∷ []) same ∙ sym g.1
 one_member words (b ∷ word) m n h g = h.0 ∙ sym g.0
 
-one_spot : (r : RoutesValue) (p : SpotValue) (t u : Tree) (m n : List ℕ) (s z : Option ℕ) → IsSpotOf r p t m s → IsSpotOf r p u n z → (t ≡ u) × (m ≡ n) × (s ≡ z)
-one_spot r p t u m n s z h g =
+one_spot : (r : RoutesValue) (p : SpotValue) (t u : Tree) (m n : List ℕ) (s z q y : Option ℕ) → IsSpotOf r p t m s q → IsSpotOf r p u n z y → (t ≡ u) × (m ≡ n) × (s ≡ z) × (q ≡ y)
+one_spot r p t u m n s z q y h g =
     let entry = same_Some h.entry g.entry (sym h.numbered ∙ g.numbered) in
     let tree : t ≡ u = sym h.has_tree ∙ ap (λ (e : RouteEntry). e.tree) entry ∙ g.has_tree in
-    (tree, one_member (class_words u) p.class m n (subst (λ x. IsMember (class_words x) p.class (Some m)) tree h.has_member) g.has_member, one_era r p.era s z h.opened g.opened)
+    (tree, one_member (class_words u) p.class m n (subst (λ x. IsMember (class_words x) p.class (Some m)) tree h.has_member) g.has_member, one_era r p.era s z h.opened g.opened, one_era r p.get_era q y h.read_opened g.read_opened)
 
 -- what a block of the spot has
-pub block_has : (r : RoutesValue) (p : SpotValue) (t : Tree) (m : List ℕ) (s : Option ℕ) → IsSpotOf r p t m s → (b : BlockValue) → IsBlockOf r b → b.spot ≡ p → IsBlockAt t m s b
-block_has r p t m s is b own e =
-    let here : IsSpotOf r p own.tree own.member own.since = subst (λ x. IsSpotOf r x own.tree own.member own.since) e own.spot in
-    let same = one_spot r p t own.tree m own.member s own.since is here in
-    subst (λ x. IsBlockAt x m s b) (sym same.0) (subst (λ x. IsBlockAt own.tree x s b) (sym same.1) (subst (λ x. IsBlockAt own.tree own.member x b) (sym same.2) own.has))
+pub block_has : (r : RoutesValue) (p : SpotValue) (t : Tree) (m : List ℕ) (s q : Option ℕ) → IsSpotOf r p t m s q → (b : BlockValue) → IsBlockOf r b → b.spot ≡ p → IsBlockAt t m s q b
+block_has r p t m s q is b own e =
+    let here : IsSpotOf r p own.tree own.member own.since own.read = subst (λ x. IsSpotOf r x own.tree own.member own.since own.read) e own.spot in
+    let same = one_spot r p t own.tree m own.member s own.since q own.read is here in
+    let at_read : IsBlockAt own.tree own.member own.since q b = subst (λ x. IsBlockAt own.tree own.member own.since x b) (sym same.3) own.has in
+    subst (λ x. IsBlockAt x m s q b) (sym same.0) (subst (λ x. IsBlockAt own.tree x s q b) (sym same.1) (subst (λ x. IsBlockAt own.tree own.member x q b) (sym same.2) at_read))
 
 -- ---- blocks
 
@@ -86,8 +87,9 @@ one_block r b c h g spot =
     let t = h.tree in
     let m = h.member in
     let s = h.since in
-    let other = block_has r b.spot t m s h.spot c g (sym spot) in
-    let readable = one_list_of_legs t (IsReadableAt t m s) b.readable c.readable h.has.readable other.readable in
+    let q = h.read in
+    let other = block_has r b.spot t m s q h.spot c g (sym spot) in
+    let readable = one_list_of_legs t (IsReadableAt t m q) b.readable c.readable h.has.readable other.readable in
     let acknowledged = one_list_of_legs t (IsAcknowledgedAt t m s) b.acknowledged c.acknowledged h.has.acknowledged other.acknowledged in
     let can = same_test b.can_be_acknowledged c.can_be_acknowledged (IsNeverAcknowledged t m s) h.has.never other.never in
     λ i. record { spot = spot i; readable = readable i; acknowledged = acknowledged i; can_be_acknowledged = can i }
@@ -95,7 +97,7 @@ one_block r b c h g spot =
 block_too : (r : RoutesValue) (blocks others : List BlockValue) → AreBlocksOf r blocks → AreBlocksOf r others → (b : BlockValue) → Contains blocks b → Contains others b
 block_too r blocks others h g b at =
     let own = All-contains (IsBlockOf r) blocks b h.only at in
-    let other = g.all b.spot own.tree own.member own.since own.spot in
+    let other = g.all b.spot own.tree own.member own.since own.read own.spot in
     let is = All-contains (IsBlockOf r) others other.0 g.only other.1 in
     subst (Contains others) (one_block r other.0 b is own other.2) other.1
 

@@ -6,7 +6,7 @@ use Rattle.std.specs.declared.cmp.Ordering.TheVariants.{Less}
 use Rattle.std.proofs.lemmas.Bool.{false≢true}
 use Rattle.std.proofs.lemmas.List.Elements.{All-cons, All-from_recursion, All-head, All-nil, All-tail, All-weaker}
 use Rattle.std.proofs.lemmas.List.Kept.{AllPairs-cons}
-use Rattle.mcv_base.specs.declared.operation.Op.TheVariants.{Get, Gets}
+use Rattle.mcv_base.specs.declared.operation.Op.TheVariants.{Get, Gets, Incr, Decr}
 use Rattle.mcv_cert.specs.Pair.{list_cmp}
 use Rattle.mcv_classes.specs.Class.{IsBefore}
 use Rattle.mcv_judge.specs.Faults.{AreLegsRising}
@@ -24,8 +24,8 @@ use Rattle.mcv_symbolic.specs.Sets.{AreLegsAt, CanBeAcknowledged, CanHitAt, IsAc
 use Rattle.mcv_blocks.specs.Blocks.{AreLeavesAt, IsAcknowledgedAt, pool_for, positions_of}
 use Rattle.mcv_blocks.specs.MergedLegs.{leaf_of, leaves_of, merge}
 use Rattle.mcv_blocks.specs.Sets.{AreCases, SetsValue}
-use Rattle.mcv_blocks.proofs.BlockAtEachSpot.{either_hit}
-use Rattle.mcv_blocks.proofs.MergesRise.{merged_leaves, positions-all}
+use Rattle.mcv_blocks.proofs.BlockAtEachSpot.{readable_by_four}
+use Rattle.mcv_blocks.proofs.MergesRise.{positions-all}
 use Rattle.mcv_route.proofs.RisingLists.{rises_behind}
 
 -- ---- the legs of a plan, borrowed
@@ -92,18 +92,20 @@ AreHits k legs = (c : Choice) → AreLegsAt k.tree (CanHitAt k.tree (situation_o
 hit-leaves : (k : CaseValue) (legs : List (Bor PlannedLeg)) → AreHits k legs → AreLeavesAt k.tree (λ p. (c : Choice) × CanHitAt k.tree (situation_of k) c p) (leaves_of legs)
 hit-leaves k legs h = by-some k.tree (λ c. CanHitAt k.tree (situation_of k) c) (leaves_of legs) (λ c. leaves-too k.tree (CanHitAt k.tree (situation_of k) c) legs (h c))
 
-module _ (value : SetsValue) (delete get gets : CaseValue) (are : AreCases delete get gets) (seen : value_of delete ≡ value) where
-  pub readable_legs : (first second : List (Bor PlannedLeg)) → AreHits get first → AreHits gets second → (all : List LegValue) → all ≡ merge (leaves_of first) (leaves_of second) → AreLeavesAt value.tree (IsReadableAt value.tree value.rest value.since) all
-  readable_legs first second h g all is =
+module _ (value : SetsValue) (delete get gets incr decr : CaseValue) (are : AreCases delete get gets incr decr) (seen : value_of delete ≡ value) where
+  pub readable_legs : (by-get by-gets by-incr by-decr : List (Bor PlannedLeg)) → AreHits get by-get → AreHits gets by-gets → AreHits incr by-incr → AreHits decr by-decr → (all : List LegValue)
+      → all ≡ merge (merge (leaves_of by-get) (leaves_of by-gets)) (merge (leaves_of by-incr) (leaves_of by-decr)) → AreLeavesAt value.tree (IsReadableAt value.tree value.rest value.since) all
+  readable_legs by-get by-gets by-incr by-decr a b d e all is =
       let t = delete.tree in
       let rest = delete.rest in
       let since = delete.since in
-      let one = hit-leaves (record delete { op = Get }) first (subst (λ k. AreHits k first) are.getting h) in
-      let other = hit-leaves (record delete { op = Gets }) second (subst (λ k. AreHits k second) are.getting_all g) in
-      let both =
-      merged_leaves t (λ p. (c : Choice) × CanHitAt t (asked Get rest since) c p) (λ p. (c : Choice) × CanHitAt t (asked Gets rest since) c p) (IsReadableAt t rest since) (λ p x. (Get, refl, x.0, x.1)) (λ p x. (Gets, refl, x.0, x.1)) (either_hit t rest since)
-      (leaves_of first) (leaves_of second) one other in
-      subst (λ (v : SetsValue). AreLeavesAt v.tree (IsReadableAt v.tree v.rest v.since) all) seen (subst (AreLeavesAt t (IsReadableAt t rest since)) (sym is) both)
+      let four =
+      readable_by_four t rest since (leaves_of by-get) (leaves_of by-gets) (leaves_of by-incr) (leaves_of by-decr)
+      (hit-leaves (record delete { op = Get }) by-get (subst (λ k. AreHits k by-get) are.getting a))
+      (hit-leaves (record delete { op = Gets }) by-gets (subst (λ k. AreHits k by-gets) are.getting_all b))
+      (hit-leaves (record delete { op = Incr }) by-incr (subst (λ k. AreHits k by-incr) are.raising d))
+      (hit-leaves (record delete { op = Decr }) by-decr (subst (λ k. AreHits k by-decr) are.lowering e)) in
+      subst (λ (v : SetsValue). AreLeavesAt v.tree (IsReadableAt v.tree v.rest v.since) all) seen (subst (AreLeavesAt t (IsReadableAt t rest since)) (sym is) four)
 
   pub acknowledged_legs : (legs : List (Bor PlannedLeg)) → ((c : Choice) → AreLegsAt delete.tree (IsAcknowledged delete.tree delete.rest delete.since c) (map (λ (l : Bor PlannedLeg). l.now) legs)) → (all : List LegValue) → all ≡ leaves_of legs → AreLeavesAt value.tree (IsAcknowledgedAt value.tree value.rest value.since) all
   acknowledged_legs legs h all is =

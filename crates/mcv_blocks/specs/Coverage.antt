@@ -4,7 +4,7 @@ use Rattle.std.specs.List.{All, Contains}
 use Rattle.mcv_route.specs.Routes.{IsSoundRoutes, RoutesValue}
 use Rattle.mcv_symbolic.specs.CoveredRoutes.{AreCovered, sizes_of}
 use Rattle.mcv_judge.specs.Reason.{BlockValue, HasReason, LegValue}
-use Rattle.mcv_cert.specs.Pair.{AreRising, PairValue}
+use Rattle.mcv_cert.specs.Pair.{AreRising, CertificateValue}
 use Rattle.mcv_blocks.specs.Blocks.{AreBlocksOf, IsBlockOf, IsJustifiedBy}
 
 -- routes have one list of blocks
@@ -13,7 +13,7 @@ OneListOfBlocks = (r : RoutesValue) (blocks others : List BlockValue) → AreBlo
 
 -- routes with a justified certificate are covered. A certificate's pairs come in order: of two at one place only the first would be judged
 abbrev pub JustifiedIsCovered : Type 0
-JustifiedIsCovered = (r : RoutesValue) (pairs : List PairValue) → IsSoundRoutes r → AreRising pairs → IsJustifiedBy r pairs → AreCovered r
+JustifiedIsCovered = (r : RoutesValue) (c : CertificateValue) → IsSoundRoutes r → AreRising c.pairs → IsJustifiedBy r c → AreCovered r
 
 -- where routes are covered, some reason answers for each leaf that can be read, at each of its indexes. Each symbol has an index (were there one without, no choice would be left, and all would be covered), and class words are of bytes (no rest has others)
 abbrev pub CoveredHasReasons : Type 0

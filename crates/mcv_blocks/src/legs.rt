@@ -34,7 +34,7 @@ pub fn all_borrowed<'a>(alloc: Global, legs: &[&'a PlannedLeg]) -> Result<Vec<Le
 /// The next leg of two lists, and how many of each it is.
 #[derive(Clone, Copy)]
 struct Next<'a> {
-    leg: Leg<'a>,
+    leg: &'a PlannedLeg,
     first: usize,
     second: usize,
 }
@@ -42,7 +42,7 @@ struct Next<'a> {
 /// The leg with the least position; where both lists have one there, it is that of both.
 fn next_of<'a>(first: &[&'a PlannedLeg], second: &[&'a PlannedLeg]) -> Option<Next<'a>>
     ensures legs { MatchOption result (merge (leaves_of first.now) (leaves_of second.now) ≡ [])
-        (λ n. merge (leaves_of first.now) (leaves_of second.now) ≡ leg_of n.leg ∷ merge (drop n.first (leaves_of first.now)) (drop n.second (leaves_of second.now))) }
+        (λ n. merge (leaves_of first.now) (leaves_of second.now) ≡ leaf_of n.leg.now ∷ merge (drop n.first (leaves_of first.now)) (drop n.second (leaves_of second.now))) }
     ensures some { IfSome result (λ n. 0 < n.first + n.second) }
     ensures first { IfSome result (λ n. n.first ≤ length first.now) }
     ensures second { IfSome result (λ n. n.second ≤ length second.now) }
@@ -50,44 +50,44 @@ fn next_of<'a>(first: &[&'a PlannedLeg], second: &[&'a PlannedLeg]) -> Option<Ne
     let Some((one, _)) = first.split_first() else {
         let (other, _) = second.split_first()?;
         return Some(Next {
-            leg: borrowed(*other),
+            leg: *other,
             first: 0,
             second: 1,
         });
     };
     let Some((other, _)) = second.split_first() else {
         return Some(Next {
-            leg: borrowed(*one),
+            leg: *one,
             first: 1,
             second: 0,
         });
     };
     match one.position.steps().cmp(other.position.steps()) {
         Ordering::Less => Some(Next {
-            leg: borrowed(*one),
+            leg: *one,
             first: 1,
             second: 0,
         }),
         Ordering::Equal => Some(Next {
-            leg: borrowed(*one),
+            leg: *one,
             first: 1,
             second: 1,
         }),
         Ordering::Greater => Some(Next {
-            leg: borrowed(*other),
+            leg: *other,
             first: 0,
             second: 1,
         }),
     }
 }
 
-/// The legs of two lists that rise by position, borrowed in one that rises; each position once.
+/// The legs of two lists that rise by position in one that rises; each position once.
 pub fn merged<'a>(
     alloc: Global,
     first: &[&'a PlannedLeg],
     second: &[&'a PlannedLeg],
-) -> Result<Vec<Leg<'a>>, AllocError>
-    ensures { IfOk result (λ all. legs_of all.items ≡ merge (leaves_of first.now) (leaves_of second.now)) }
+) -> Result<Vec<&'a PlannedLeg>, AllocError>
+    ensures { IfOk result (λ all. leaves_of all.items ≡ merge (leaves_of first.now) (leaves_of second.now)) }
 {
     let mut all = Vec::new(alloc);
     let (mut left, mut right) = (0, 0);

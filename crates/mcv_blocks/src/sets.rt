@@ -20,6 +20,8 @@ pub struct Sets<'a> {
     delete: Case<'a>,
     get: Case<'a>,
     gets: Case<'a>,
+    incr: Case<'a>,
+    decr: Case<'a>,
 }
 
 impl<'a> Model for Sets<'a> {
@@ -31,7 +33,7 @@ impl<'a> Model for Sets<'a> {
 
     ghost view = { λ s. record { tree = s.delete.tree; rest = s.delete.rest; since = s.delete.since } };
 
-    ghost invariant = { λ s. AreCases s.delete s.get s.gets };
+    ghost invariant = { λ s. AreCases s.delete s.get s.gets s.incr s.decr };
 }
 
 impl<'a> Sets<'a> {
@@ -47,16 +49,29 @@ impl<'a> Sets<'a> {
         let delete = Case::new(alloc, route, Op::Delete, rest, since)?;
         let get = Case::new(alloc, route, Op::Get, rest, since)?;
         let gets = Case::new(alloc, route, Op::Gets, rest, since)?;
-        Ok(Sets { delete, get, gets })
+        let incr = Case::new(alloc, route, Op::Incr, rest, since)?;
+        let decr = Case::new(alloc, route, Op::Decr, rest, since)?;
+        Ok(Sets {
+            delete,
+            get,
+            gets,
+            incr,
+            decr,
+        })
     }
 
-    /// The legs from which a get or gets can be answered, in the order of their positions.
+    /// The legs from which a get, gets, incr or decr can be answered, in the order of their positions.
     pub fn readable(&self, alloc: Global) -> Result<Vec<Leg<'_>>, AllocError>
         ensures { IfOk result (λ legs. AreLeavesAt self.now.tree (IsReadableAt self.now.tree self.now.rest self.now.since) (legs_of legs.items)) }
     {
         let get = self.get.readable(alloc)?;
         let gets = self.gets.readable(alloc)?;
-        merged(alloc, get.as_slice(), gets.as_slice())
+        let incr = self.incr.readable(alloc)?;
+        let decr = self.decr.readable(alloc)?;
+        let read = merged(alloc, get.as_slice(), gets.as_slice())?;
+        let adjusted = merged(alloc, incr.as_slice(), decr.as_slice())?;
+        let all = merged(alloc, read.as_slice(), adjusted.as_slice())?;
+        all_borrowed(alloc, all.as_slice())
     }
 
     /// The legs that every delete that has a reply has sent, in the order of their positions.

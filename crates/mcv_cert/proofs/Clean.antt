@@ -1,5 +1,5 @@
 -- The words of a line have no byte up to 32: no space, and no end of a line.
-use Rattle.std.proofs.Common.{◌≡◌, ℕ, ◌/◌, ◌%◌, ◌^◌, ◌<◌, ◌≤◌, true, false, not, ◌&&◌, ◌==◌, nat_le, nat_lt, List, [], ◌∷◌, ◌++◌, refl, ap, arith, inl, inr, map}
+use Rattle.std.proofs.Common.{◌≡◌, ℕ, zero, suc, ◌/◌, ◌%◌, ◌^◌, ◌<◌, ◌≤◌, true, false, not, ◌&&◌, ◌==◌, nat_le, nat_lt, List, [], ◌∷◌, ◌++◌, refl, ap, arith, inl, inr, map}
 use Rattle.std.specs.Prelude.{codes, decimal}
 use Rattle.std.specs.List.{All, AllByRecursion, flat_map, join_with_byte}
 use Rattle.std.proofs.lemmas.Bool.{cases_Bool, and_parts, leb-true, ne_eqb}
@@ -10,9 +10,9 @@ use Rattle.mcv_base.specs.Key.{lacks}
 use Rattle.mcv_base.specs.Position.{position_text}
 use Rattle.mcv_base.proofs.Cuts.{joined, lacks-append}
 use Rattle.mcv_cert.specs.Escape.{escaped, escaped_byte, hex_digit, is_plain}
-use Rattle.mcv_cert.specs.Fits.{FitsPosition, FitsReason}
-use Rattle.mcv_cert.specs.Pair.{IsPair, PairValue, ReasonValue, never, twin, same, all}
-use Rattle.mcv_cert.specs.Text.{pair_text, pair_words, reason_words}
+use Rattle.mcv_cert.specs.Fits.{FitsPosition, FitsReason, FitsSpot}
+use Rattle.mcv_cert.specs.Pair.{IsPair, PairValue, ReasonValue, SpotValue, never, twin, same, all}
+use Rattle.mcv_cert.specs.Text.{era_words, pair_text, pair_words, reason_words}
 
 abbrev pub IsClean : List ℕ → Type 0
 IsClean word = All (λ b. 32 < b) word
@@ -69,12 +69,16 @@ clean_reason (same index leg) fits =
 clean_reason (all index legs) fits =
     (All-from_recursion (λ b. 32 < b) (codes "all") (omega arith, (omega arith, (omega arith, tt))), (clean_decimal index fits.0, clean_positions legs fits.1))
 
-pub clean_words : (p : PairValue) → IsPair p → AreClean (pair_words p)
-clean_words p is = (
+clean_eras : (w : ℕ) (s : SpotValue) (more : List (List ℕ)) → FitsSpot s → AreClean more → AreClean (era_words w s more)
+clean_eras zero s more fits clean = (clean_decimal s.era fits.era, clean)
+clean_eras (suc w) s more fits clean = (clean_decimal s.era fits.era, (clean_decimal s.get_era fits.get_era, clean))
+
+pub clean_words : (w : ℕ) (p : PairValue) → IsPair w p → AreClean (pair_words w p)
+clean_words w p is = (
   clean_decimal p.place.spot.route is.fits.spot.route,
   (
     All-cons (λ b. 32 < b) 61 (escaped p.place.spot.class) (omega arith) (clean_escaped p.place.spot.class),
-    (clean_decimal p.place.spot.era is.fits.spot.era, (clean_position p.place.leaf is.fits.leaf, clean_reason p.reason is.fits.reason)),
+    clean_eras w p.place.spot (position_text p.place.leaf ∷ reason_words p.reason) is.fits.spot (clean_position p.place.leaf is.fits.leaf, clean_reason p.reason is.fits.reason),
   ),
 )
 
@@ -97,6 +101,10 @@ joined_lacks [] clean = refl
 joined_lacks (w ∷ []) clean = clean_lacks w clean.0
 joined_lacks (w ∷ v ∷ ws) clean = lacks-append 10 w (32 ∷ join_with_byte 32 (v ∷ ws)) (clean_lacks w clean.0) (joined_lacks (v ∷ ws) clean.1)
 
-pub text_lacks : (p : PairValue) → IsPair p → lacks 10 (pair_text p) ≡ true
+pub text_lacks : (w : ℕ) (p : PairValue) → IsPair w p → lacks 10 (pair_text w p) ≡ true
 unfolding pair_text
-text_lacks p is = joined_lacks (pair_words p) (clean_words p is)
+text_lacks w p is = joined_lacks (pair_words w p) (clean_words w p is)
+
+-- a number has no end of a line
+pub number_lacks : (n : ℕ) → n < 2 ^ 64 → lacks 10 (decimal n) ≡ true
+number_lacks n small = clean_lacks (decimal n) (clean_decimal n small)

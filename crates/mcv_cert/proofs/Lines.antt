@@ -1,5 +1,5 @@
 -- A text is cut at the ends of its lines.
-use Rattle.std.proofs.Common.{◌≡◌, ◌≢◌, ◌∙◌, ℕ, ◌&&◌, Bool, true, false, List, [], ◌∷◌, ◌++◌, length, take, Some, None, refl, sym, ap, subst, append_assoc, append-nil}
+use Rattle.std.proofs.Common.{◌≡◌, ◌≢◌, ◌∙◌, ℕ, ◌<◌, ◌^◌, ◌&&◌, Bool, true, false, List, [], ◌∷◌, ◌++◌, length, take, Some, None, refl, sym, ap, subst, append_assoc, append-nil}
 use Rattle.std.specs.Prelude.{codes}
 use Rattle.std.specs.List.{All, flat_map}
 use Rattle.std.proofs.lemmas.Bool.{and_parts, true≢false}
@@ -14,10 +14,10 @@ use Rattle.mcv_cert.specs.Reading.{IsNoLine, Reading, Reads, Stops}
 use Rattle.mcv_cert.specs.Fault.{IsFaultOfText, reading_of}
 use Rattle.mcv_cert.specs.declared.fault.CertFault.{CertFault}
 use Rattle.mcv_cert.specs.declared.fault.CertFault.TheVariants.{Text, Memory}
-use Rattle.mcv_cert.specs.Text.{pair_line, pair_text}
+use Rattle.mcv_cert.specs.Text.{first_line, first_text, pair_line, pair_text}
 use Rattle.mcv_cert.proofs.Clean.{text_lacks}
 use Rattle.mcv_cert.proofs.Rising.{rising_push}
-use Rattle.mcv_cert.proofs.Spelled.{line_cut}
+use Rattle.mcv_cert.proofs.Spelled.{first_cut, first_lacks, line_cut}
 
 -- the first line of a text
 first_line_is : (text line more : List ℕ) (end : ℕ) → lacks 10 line ≡ true → text ≡ line ++ 10 ∷ more → IsFirstByte (is_byte 10) text (Some end) → take end text ≡ line
@@ -25,49 +25,65 @@ first_line_is text line more end bare is first =
     let at : end ≡ length line = first_at_cut 10 text line more end is bare first in
     ap (take end) is ∙ take_at line (10 ∷ more) end (sym at)
 
--- no line without an end
-pub no_end : (text : List ℕ) → IsFirstByte (is_byte 10) text None → IsNoLine text
-no_end text none = record {
-  pair = λ p more is e. none_at_cut 10 text (pair_text p) more (e ∙ line_cut p more) none;
-  last = λ more e. none_at_cut 10 text (codes "end") more e none;
-}
+module _ (w : ℕ) where
+  -- no line without an end
+  pub no_end : (text : List ℕ) → IsFirstByte (is_byte 10) text None → IsNoLine w text
+  no_end text none = record {
+    pair = λ p more is e. none_at_cut 10 text (pair_text w p) more (e ∙ line_cut w p more) none;
+    last = λ more e. none_at_cut 10 text (codes "end") more e none;
+  }
 
-pub no_line : (text : List ℕ) (end : ℕ) → IsFirstByte (is_byte 10) text (Some end) → take end text ≢ codes "end" → ((p : PairValue) → IsPair p → take end text ≢ pair_text p) → IsNoLine text
-no_line text end first other none = record {
-  pair = λ p more is e. none p is (first_line_is text (pair_text p) more end (text_lacks p is) (e ∙ line_cut p more) first);
-  last = λ more e. other (first_line_is text (codes "end") more end refl e first);
-}
+  pub no_line : (text : List ℕ) (end : ℕ) → IsFirstByte (is_byte 10) text (Some end) → take end text ≢ codes "end" → ((p : PairValue) → IsPair w p → take end text ≢ pair_text w p) → IsNoLine w text
+  no_line text end first other none = record {
+    pair = λ p more is e. none p is (first_line_is text (pair_text w p) more end (text_lacks w p is) (e ∙ line_cut w p more) first);
+    last = λ more e. other (first_line_is text (codes "end") more end refl e first);
+  }
 
 -- ---- from line to line
 
 -- what the reader knows when it has read so many pairs
-pub record IsSoFar (body : List ℕ) (ps : List PairValue) (rest : List ℕ) : Type 0 where
-  pub lines : body ≡ flat_map pair_line ps ++ rest
-  pub are_pairs : All IsPair ps
+pub record IsSoFar (w : ℕ) (body : List ℕ) (ps : List PairValue) (rest : List ℕ) : Type 0 where
+  pub lines : body ≡ flat_map (pair_line w) ps ++ rest
+  pub are_pairs : All (IsPair w) ps
   pub rising : AreRising ps
 
-pub so_far_more : (body rest later : List ℕ) (ps : List PairValue) (p : PairValue) → IsSoFar body ps rest → IsPair p → rest ≡ pair_line p ++ later → is_behind ps p ≡ true → IsSoFar body (ps ++ p ∷ []) later
-so_far_more body rest later ps p so_far is line behind = record {
+pub so_far_more : (w : ℕ) (body rest later : List ℕ) (ps : List PairValue) (p : PairValue) → IsSoFar w body ps rest → IsPair w p → rest ≡ pair_line w p ++ later → is_behind ps p ≡ true → IsSoFar w body (ps ++ p ∷ []) later
+so_far_more w body rest later ps p so_far is line behind = record {
   lines =
-      so_far.lines ∙ ap (λ xs. flat_map pair_line ps ++ xs) line
-      ∙ sym (append_assoc (flat_map pair_line ps) (pair_line p) later)
-      ∙ ap (λ xs. xs ++ later) (sym (flat_map-append pair_line ps (p ∷ []) ∙ ap (λ xs. flat_map pair_line ps ++ xs) (append-nil (pair_line p))));
-  are_pairs = All-push IsPair ps p so_far.are_pairs is;
+      so_far.lines ∙ ap (λ xs. flat_map (pair_line w) ps ++ xs) line
+      ∙ sym (append_assoc (flat_map (pair_line w) ps) (pair_line w p) later)
+      ∙ ap (λ xs. xs ++ later) (sym (flat_map-append (pair_line w) ps (p ∷ []) ∙ ap (λ xs. flat_map (pair_line w) ps ++ xs) (append-nil (pair_line w p))));
+  are_pairs = All-push (IsPair w) ps p so_far.are_pairs is;
   rising = rising_push ps p so_far.rising behind;
 }
 
-pub stopped : (body rest : List ℕ) (ps : List PairValue) (r : Reading) → IsSoFar body ps rest → Stops ps rest r → Reads body r
-stopped body rest ps r so_far stops = record { ps = ps; rest = rest; lines = so_far.lines; are_pairs = so_far.are_pairs; rising = so_far.rising; stops = stops }
+pub stopped : (w : ℕ) (body rest : List ℕ) (ps : List PairValue) (r : Reading) → IsSoFar w body ps rest → Stops w ps rest r → Reads w body r
+stopped w body rest ps r so_far stops = record { ps = ps; rest = rest; lines = so_far.lines; are_pairs = so_far.are_pairs; rising = so_far.rising; stops = stops }
 
 -- ---- what the reader answers
 
--- a pair that isn't taken though it names its legs doesn't come behind the others
-pub low_is : (a b r : Bool) → a ≡ true → r ≡ (a && b) → r ≡ false → b ≡ false
-low_is true b r named is none = sym is ∙ none
-low_is false b r named is none = absurd (true≢false (sym named))
+-- a pair that isn't taken though it has its eras and names its legs doesn't come behind the others
+pub low_is : (a b c r : Bool) → a ≡ true → b ≡ true → r ≡ (a && b && c) → r ≡ false → c ≡ false
+low_is true true c r eras named is none = sym is ∙ none
+low_is true false c r eras named is none = absurd (true≢false (sym named))
+low_is false b c r eras named is none = absurd (true≢false (sym eras))
 
-pub high_is : (a b r : Bool) → r ≡ (a && b) → r ≡ true → b ≡ true
-high_is a b r is all = (and_parts a b (sym is ∙ all)).1
+pub high_is : (a b c r : Bool) → r ≡ (a && b && c) → r ≡ true → c ≡ true
+high_is a b c r is all = (and_parts (a && b) c (sym is ∙ all)).1
+
+-- ---- the first line
+
+-- no first line without an end
+pub no_head : (text : List ℕ) → IsFirstByte (is_byte 10) text None → (w : ℕ) (body : List ℕ) → w < 2 ^ 64 → text ≢ first_line w ++ body
+no_head text none w body small e = none_at_cut 10 text (first_text w) body (e ∙ first_cut w body) none
+
+-- nor where the first line of the text is that of no certificate
+pub other_head : (text : List ℕ) (end : ℕ) → IsFirstByte (is_byte 10) text (Some end) → ((w : ℕ) → w < 2 ^ 64 → take end text ≢ first_text w) → (w : ℕ) (body : List ℕ) → w < 2 ^ 64 → text ≢ first_line w ++ body
+other_head text end first none w body small e = none w small (first_line_is text (first_text w) body end (first_lacks w small) (e ∙ first_cut w body) first)
+
+-- a text is its first line, the end of that, and what follows
+pub head_cut : (text : List ℕ) (end w : ℕ) (later : List ℕ) → text ≡ take end text ++ 10 ∷ later → take end text ≡ first_text w → text ≡ first_line w ++ later
+head_cut text end w later cut e = cut ∙ ap (λ line. line ++ 10 ∷ later) e ∙ sym (first_cut w later)
 
 pub fault_of_reading : (f : CertFault) (x : Reading) (P : Reading → Type 0) → IsFaultOfText (λ s. x ≡ s) f → P x → IsFaultOfText P f
 fault_of_reading (Text fault) x P e p = subst P e p

@@ -11,12 +11,12 @@ use Rattle.std.proofs.lemmas.List.{get_or-map, length-map}
 use Rattle.std.proofs.lemmas.List.Elements.{All-push}
 use Rattle.std.proofs.lemmas.List.Folds.{list_all_at}
 use Rattle.std.proofs.lemmas.List.Quantifiers.{all_pairs_push}
-use Rattle.mcv_cert.specs.Pair.{AreRising, IsCertificate, NamesLegs, PairValue, PlaceValue, SpotValue, names_legs, index_of, is_behind, pair_cmp, place_cmp, spot_cmp}
+use Rattle.mcv_cert.specs.Pair.{AreRising, HasEras, IsCertificate, NamesLegs, PairValue, PlaceValue, SpotValue, names_legs, index_of, is_behind, pair_cmp, place_cmp, spot_cmp}
 
 pub spots_total : IsTotalOrder spot_cmp
 spots_total =
-    then_total (then_total (on_total (λ (s : SpotValue). s.route) nat_cmp_total) (on_total (λ (s : SpotValue). s.class) nat_list_cmp_total))
-    (on_total (λ (s : SpotValue). s.era) nat_cmp_total)
+    then_total (then_total (then_total (on_total (λ (s : SpotValue). s.route) nat_cmp_total) (on_total (λ (s : SpotValue). s.class) nat_list_cmp_total))
+    (on_total (λ (s : SpotValue). s.era) nat_cmp_total)) (on_total (λ (s : SpotValue). s.get_era) nat_cmp_total)
 
 pub places_total : IsTotalOrder place_cmp
 unfolding place_cmp
@@ -79,8 +79,9 @@ none_before f [] p none = refl
 none_before f (x ∷ xs) p none = absurd (let h : ⊥ = omega arith in h)
 
 -- the certificate that a push leaves
-pub certificate_push : (ps : List PairValue) (p : PairValue) → IsCertificate ps → names_legs p.reason ≡ true → is_behind ps p ≡ true → IsCertificate (ps ++ p ∷ [])
-certificate_push ps p is legs behind = record {
+pub certificate_push : (w : ℕ) (ps : List PairValue) (p : PairValue) → IsCertificate (record { window = w; pairs = ps }) → HasEras w p → names_legs p.reason ≡ true → is_behind ps p ≡ true → IsCertificate (record { window = w; pairs = ps ++ p ∷ [] })
+certificate_push w ps p is eras legs behind = record {
   rising = rising_push ps p is.rising behind;
   legs = All-push NamesLegs ps p is.legs legs;
+  eras = All-push (HasEras w) ps p is.eras eras;
 }

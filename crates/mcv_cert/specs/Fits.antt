@@ -19,6 +19,7 @@ pub record FitsSpot (s : SpotValue) : Type 0 where
   pub route : s.route < 2 ^ 64
   pub class : All (λ b. b < 256) s.class
   pub era : s.era < 2 ^ 64
+  pub get_era : s.get_era < 2 ^ 64
 
 -- a leaf's place and a reason for it, whose numbers have 64 bits
 pub record FitsPair (place : PlaceValue) (why : ReasonValue) : Type 0 where
@@ -45,6 +46,7 @@ FitsSpot-prop s x y = λ i. record {
   route = le_prop x.route y.route i;
   class = All-prop (λ b. b < 256) (λ b. le_prop) s.class x.class y.class i;
   era = le_prop x.era y.era i;
+  get_era = le_prop x.get_era y.get_era i;
 }
 
 pub FitsPair-prop : (place : PlaceValue) (why : ReasonValue) → IsProp (FitsPair place why)

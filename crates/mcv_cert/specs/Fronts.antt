@@ -6,7 +6,7 @@ use Rattle.mcv_cert.specs.Pair.{IsPair, pair_of}
 use Rattle.mcv_cert.specs.Reading.{IsNoLine}
 use Rattle.mcv_cert.specs.Text.{last_line, pair_line}
 
-abbrev pub IsFront : List ℕ → Front → Type 0
-IsFront text (Line pair later) = IsPair (pair_of pair) × (text ≡ pair_line (pair_of pair) ++ later.now) × (length later.now < length text)
-IsFront text (Last later) = text ≡ last_line ++ later.now
-IsFront text Nothing = IsNoLine text
+abbrev pub IsFront : ℕ → List ℕ → Front → Type 0
+IsFront w text (Line pair later) = IsPair w (pair_of pair) × (text ≡ pair_line w (pair_of pair) ++ later.now) × (length later.now < length text)
+IsFront w text (Last later) = text ≡ last_line ++ later.now
+IsFront w text Nothing = IsNoLine w text

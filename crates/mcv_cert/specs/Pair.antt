@@ -1,5 +1,5 @@
 -- Pairs of a certificate, and their order (own).
-use Rattle.std.specs.Prelude.{◌≡◌, ℕ, Bool, true, List, AllPairs, All}
+use Rattle.std.specs.Prelude.{◌≡◌, ◌==◌, ◌||◌, not, ℕ, Bool, true, List, AllPairs, All}
 use Rattle.std.specs.List.{list_all}
 use Rattle.std.specs.Ordering.{is_lt, nat_cmp, ordering_then}
 use Rattle.std.specs.declared.cmp.Ordering.{Ordering}
@@ -41,12 +41,26 @@ is_behind ps p = list_all (λ (q : PairValue). is_lt (pair_cmp q p)) ps
 abbrev pub NamesLegs : PairValue → Type 0
 NamesLegs p = names_legs p.reason ≡ true
 
--- what every certificate is
-pub record IsCertificate (ps : List PairValue) : Type 0 where
-  pub rising : AreRising ps
-  pub legs : All NamesLegs ps
+-- with no window both eras are one
+abbrev pub has_eras : ℕ → SpotValue → Bool
+has_eras w s = not (w == 0) || (s.get_era == s.era)
 
--- a pair whose numbers have 64 bits, and that names a leg where it has to: such pairs have a text
-pub record IsPair (p : PairValue) : Type 0 where
+abbrev pub HasEras : ℕ → PairValue → Type 0
+HasEras w p = has_eras w p.place.spot ≡ true
+
+-- the window that a certificate is for, in seconds, and its pairs
+pub record CertificateValue : Type 0 where
+  pub window : ℕ
+  pub pairs : List PairValue
+
+-- what every certificate is
+pub record IsCertificate (c : CertificateValue) : Type 0 where
+  pub rising : AreRising c.pairs
+  pub legs : All NamesLegs c.pairs
+  pub eras : All (HasEras c.window) c.pairs
+
+-- a pair of a certificate of this window: its numbers have 64 bits, it names a leg where it has to, and its eras are those of the window. Such pairs have a text
+pub record IsPair (w : ℕ) (p : PairValue) : Type 0 where
   pub fits : FitsPair p.place p.reason
   pub legs : NamesLegs p
+  pub eras : HasEras w p

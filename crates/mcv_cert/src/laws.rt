@@ -11,10 +11,11 @@ pub fn one_answer()
     ensures { (text : List ℕ) (r s : Reading) → Says text r → Says text s → r ≡ s }
 {}
 
-/// The text of a certificate, up to the limit, says its pairs and nothing else.
+/// The text of a certificate, up to the limit, says its window and its pairs and nothing else.
 pub fn text_is_read(certificate: &Certificate)
-    ensures said { length (certificate_text certificate.now) ≤ text_limit → Says (certificate_text certificate.now) (pairs certificate.now) }
-    ensures alone { (r : Reading) → length (certificate_text certificate.now) ≤ text_limit → Says (certificate_text certificate.now) r → r ≡ pairs certificate.now }
+    ensures said { let c = certificate.now in length (certificate_text c.window c.pairs) ≤ text_limit → Says (certificate_text c.window c.pairs) (pairs c.window c.pairs) }
+    ensures alone { let c = certificate.now in (r : Reading) → length (certificate_text c.window c.pairs) ≤ text_limit → Says (certificate_text c.window c.pairs) r → r ≡ pairs c.window c.pairs }
 {
     let _ = certificate.pairs();
+    let _ = certificate.window();
 }

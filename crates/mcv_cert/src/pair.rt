@@ -68,7 +68,7 @@ impl Pair {
         Pair { place, reason }
     }
 
-    /// How the two come in a certificate: by route, class, era, leaf and index.
+    /// How the two come in a certificate: by route, class, eras, leaf and index.
     pub fn compare(&self, other: &Pair) -> Ordering
         ensures { result ≡ pair_cmp (pair_of self.now) (pair_of other.now) }
     {
@@ -105,6 +105,7 @@ fn place_fits(place: &Place)
     number_fits(place.route);
     bytes_fit(&place.class);
     number_fits(place.era);
+    number_fits(place.get_era);
     steps_fit(place.leaf.steps());
 }
 

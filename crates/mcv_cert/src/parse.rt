@@ -6,9 +6,9 @@ ghost use Rattle.std.specs.List.{slice_split};
 ghost use Rattle.std.specs.Option.{option_map};
 ghost use Rattle.mcv_base.specs.Position.{position_text};
 ghost use Rattle.mcv_cert.specs.Escape.{escaped};
-ghost use Rattle.mcv_cert.specs.Fits.{FitsPosition, FitsReason};
-ghost use Rattle.mcv_cert.specs.Pair.{IsPair, PairValue, ReasonValue, all, names_legs, never, pair_of, reason_of, same, twin};
-ghost use Rattle.mcv_cert.specs.Text.{pair_text, pair_words, reason_words};
+ghost use Rattle.mcv_cert.specs.Fits.{FitsPosition, FitsReason, FitsSpot};
+ghost use Rattle.mcv_cert.specs.Pair.{IsPair, PairValue, ReasonValue, SpotValue, all, has_eras, names_legs, never, pair_of, reason_of, same, twin};
+ghost use Rattle.mcv_cert.specs.Text.{era_words, first_text, pair_text, pair_words, reason_words};
 
 use crate::escape::unescaped;
 use crate::pair::{Pair, Reason};
@@ -16,6 +16,26 @@ use crate::place::Place;
 use mcv_base::Position;
 use std::alloc::{AllocError, Global};
 use std::str;
+
+/// The eras of a pair, and the words behind theirs.
+#[derive(Clone, Copy)]
+struct Eras<'a> {
+    era: usize,
+    get_era: usize,
+    behind: &'a [&'a [u8]],
+}
+
+/// The window whose certificates begin with this line, without its end. Another line may give any.
+pub fn window_of(line: &[u8]) -> Option<u64>
+    ensures { (w : ℕ) → w < 2 ^ 64 → line.now ≡ first_text w → result ≡ Some w }
+{
+    if line == b"mcv-cert 1".as_slice() {
+        return Some(0);
+    }
+    let digits = line.strip_prefix(b"mcv-cert 2 ")?;
+    let window = read_number(digits)?;
+    Some(window as u64)
+}
 
 /// The parts between spaces.
 fn words_of(alloc: Global, line: &[u8]) -> Result<Vec<&[u8]>, AllocError>
@@ -206,22 +226,59 @@ fn read_class(alloc: Global, word: &[u8]) -> Result<Option<Vec<u8>>, AllocError>
     }
 }
 
+/// The number whose word is the first one, and the words behind it.
+fn read_first<'a>(words: &'a [&'a [u8]]) -> Option<(usize, &'a [&'a [u8]])>
+    ensures { (n : ℕ) (more : List (List ℕ)) → n < 2 ^ 64 → map (λ w. w.now) words.now ≡ decimal n ∷ more → IsSomeAnd result (λ x. (x.0 ≡ n) × (map (λ w. w.now) x.1.now ≡ more)) }
+{
+    let [word, behind @ ..] = words else {
+        return None;
+    };
+    let number = read_number(word)?;
+    Some((number, behind))
+}
+
+/// The eras whose words are the first ones: with no window one word for both.
+fn read_eras<'a>(words: &'a [&'a [u8]], window: u64) -> Option<Eras<'a>>
+    ensures meant { (s : SpotValue) (more : List (List ℕ)) → FitsSpot s → has_eras window s ≡ true → map (λ w. w.now) words.now ≡ era_words window s more →
+        IsSomeAnd result (λ x. (x.era ≡ s.era) × (x.get_era ≡ s.get_era) × (map (λ w. w.now) x.behind.now ≡ more)) }
+    ensures one { window ≡ 0 → IfSome result (λ x. x.get_era ≡ x.era) }
+{
+    let (era, behind) = read_first(words)?;
+    if window == 0 {
+        return Some(Eras {
+            era,
+            get_era: era,
+            behind,
+        });
+    }
+    let (get_era, behind) = read_first(behind)?;
+    Some(Eras {
+        era,
+        get_era,
+        behind,
+    })
+}
+
 /// The pair whose words these are. Other words may give any.
 fn pair_of_words(
     alloc: Global,
     words: &[&[u8]],
+    window: u64,
     steps: &mut Vec<usize>,
 ) -> Result<Option<Pair>, AllocError>
-    ensures meant { (p : PairValue) → IsPair p → map (λ w. w.now) words.now ≡ pair_words p → IfOk result (λ o. IsSomeAnd o (λ x. pair_of x ≡ p)) }
-    ensures fits { IfOk result (λ o. IfSome o (λ x. IsPair (pair_of x))) }
+    ensures meant { (p : PairValue) → IsPair window p → map (λ w. w.now) words.now ≡ pair_words window p → IfOk result (λ o. IsSomeAnd o (λ x. pair_of x ≡ p)) }
+    ensures fits { IfOk result (λ o. IfSome o (λ x. IsPair window (pair_of x))) }
 {
-    let [route, class, era, leaf, reason @ ..] = words else {
+    let [route, class, eras @ ..] = words else {
         return Ok(None);
     };
     let Some(route) = read_number(route) else {
         return Ok(None);
     };
-    let Some(era) = read_number(era) else {
+    let Some(eras) = read_eras(eras, window) else {
+        return Ok(None);
+    };
+    let [leaf, reason @ ..] = eras.behind else {
         return Ok(None);
     };
     let Some(class) = read_class(alloc, class)? else {
@@ -236,7 +293,8 @@ fn pair_of_words(
     let place = Place {
         route,
         class,
-        era,
+        era: eras.era,
+        get_era: eras.get_era,
         leaf,
     };
     let pair = Pair::new(place, reason);
@@ -244,10 +302,15 @@ fn pair_of_words(
 }
 
 /// The pair whose line it is, without its end; `steps` is a buffer. Another line may give any.
-pub fn parse(alloc: Global, line: &[u8], steps: &mut Vec<usize>) -> Result<Option<Pair>, AllocError>
-    ensures meant { (p : PairValue) → IsPair p → line.now ≡ pair_text p → IfOk result (λ o. IsSomeAnd o (λ x. pair_of x ≡ p)) }
-    ensures fits { IfOk result (λ o. IfSome o (λ x. IsPair (pair_of x))) }
+pub fn parse(
+    alloc: Global,
+    line: &[u8],
+    window: u64,
+    steps: &mut Vec<usize>,
+) -> Result<Option<Pair>, AllocError>
+    ensures meant { (p : PairValue) → IsPair window p → line.now ≡ pair_text window p → IfOk result (λ o. IsSomeAnd o (λ x. pair_of x ≡ p)) }
+    ensures fits { IfOk result (λ o. IfSome o (λ x. IsPair window (pair_of x))) }
 {
     let words = words_of(alloc, line)?;
-    pair_of_words(alloc, words.as_slice(), steps)
+    pair_of_words(alloc, words.as_slice(), window, steps)
 }

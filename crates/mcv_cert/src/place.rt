@@ -7,21 +7,24 @@ use mcv_base::Position;
 use std::alloc::{AllocError, Global};
 use std::cmp::Ordering;
 
-/// Where a leaf is: of which route, for the rests of which class, in which era, and at which position.
+/// Where a leaf is: of which route, for the rests of which class, with a delete in which era and a get in which, and at
+/// which position.
 #[derive(Drop)]
 pub struct Place {
     /// The number of the route, from 0.
     pub route: usize,
     /// The bytes of the class word.
     pub class: Vec<u8>,
-    /// The number of the era, from 0.
+    /// The number of the delete's era, from 0.
     pub era: usize,
+    /// The number of the get's era, from 0.
+    pub get_era: usize,
     /// The position of the leaf in the tree of the route.
     pub leaf: Position,
 }
 
 impl Place {
-    /// How the two come in a certificate: by route, class, era and leaf.
+    /// How the two come in a certificate: by route, class, eras and leaf.
     #[tactic(auto, unfolding(crate::specs::Place::place_cmp))]
     pub fn compare(&self, other: &Place) -> Ordering
         ensures { result ≡ place_cmp (place_of self.now) (place_of other.now) }
@@ -30,6 +33,7 @@ impl Place {
             .cmp(&other.route)
             .then(self.class.as_slice().cmp(other.class.as_slice()))
             .then(self.era.cmp(&other.era))
+            .then(self.get_era.cmp(&other.get_era))
             .then(self.leaf.steps().cmp(other.leaf.steps()))
     }
 
@@ -41,6 +45,7 @@ impl Place {
             route: self.route,
             class: Vec::from_slice(alloc, self.class.as_slice())?,
             era: self.era,
+            get_era: self.get_era,
             leaf: self.leaf.copy(alloc)?,
         })
     }

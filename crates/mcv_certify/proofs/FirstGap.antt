@@ -1,5 +1,5 @@
 -- The gap that is reported is the first of all.
-use Rattle.std.proofs.Common.{◌≡◌, ◌↔◌, ◌<◌, ℕ, List, ◌∷◌, length, Some, inl, inr, refl, sym, ◌∙◌, subst}
+use Rattle.std.proofs.Common.{◌≡◌, ◌<◌, ℕ, List, ◌∷◌, length, Some, inl, inr, refl, sym, ◌∙◌, subst}
 use Rattle.std.specs.List.{All, Contains}
 use Rattle.std.specs.declared.cmp.Ordering.TheVariants.{Less}
 use Rattle.std.proofs.lemmas.List.Elements.{All-contains, All-from_recursion, Contains-append_cases}
@@ -7,10 +7,10 @@ use Rattle.std.proofs.lemmas.Option.{get_or_from_slice_get, slice_get_within}
 use Rattle.mcv_cert.specs.Pair.{PlaceValue, index_cmp, spot_cmp, place_of}
 use Rattle.mcv_judge.specs.Reason.{BlockValue, HasReason, HasReasons, LegValue}
 use Rattle.mcv_route.specs.Routes.{RoutesValue}
-use Rattle.mcv_route.specs.Eras.{HasEra}
+use Rattle.mcv_route.specs.declared.eras.NearEras.{NearEras}
 use Rattle.mcv_blocks.specs.Blocks.{IsBlockOf}
 use Rattle.mcv_blocks.specs.Places.{AreRouteClasses}
-use Rattle.mcv_blocks.specs.Spots.{AreClassesInEras, IsBlockFor, ClassInEra, classes_in_eras, in_era, spot_of}
+use Rattle.mcv_blocks.specs.Spots.{AreClassesInEras, AreNears, IsBlockFor, ClassInEras, classes_in_eras, in_eras, spot_of}
 use Rattle.mcv_blocks.specs.declared.classes.RouteClass.{RouteClass}
 use Rattle.mcv_blocks.proofs.BlocksOfSpots.{class-there, in-spots, same-cmp, spots_are, spots_behind}
 use Rattle.mcv_route.proofs.RisingLists.{first_or_behind}
@@ -22,20 +22,22 @@ use Rattle.mcv_certify.proofs.BlockGap.{before_gap}
 use Rattle.mcv_certify.proofs.Lists.{zip_there}
 use Rattle.mcv_certify.proofs.Places.{in_two_blocks, not_before, place_in}
 
-module _ (r : RoutesValue) (cs : List RouteClass) (n : ℕ) (classes : AreRouteClasses r cs) (count : (era : ℕ) → (era < n) ↔ HasEra r era) where
-  -- the class and the era of a block
-  class_of : (b : BlockValue) → IsBlockOf r b → (s : ClassInEra) × Contains (classes_in_eras cs n) s × IsBlockFor r s b
+module _ (r : RoutesValue) (cs : List RouteClass) (xs : List NearEras) (classes : AreRouteClasses r cs) (near : AreNears r xs) where
+  -- the class and the eras of a block
+  class_of : (b : BlockValue) → IsBlockOf r b → (s : ClassInEras) × Contains (classes_in_eras cs xs) s × IsBlockFor r s b
   class_of b own =
-      let c : RouteClass = record { route = b.spot.route; class = record { word = b.spot.class; member = Some own.member } } in (
-        in_era c b.spot.era,
-        in-spots cs n b.spot.era c ((count b.spot.era).1 (own.since, own.spot.opened)) (classes.all c (class-there r b.spot own.tree own.member own.since own.spot)),
+      let c : RouteClass = record { route = b.spot.route; class = record { word = b.spot.class; member = Some own.member } } in
+      let x = near.all b.spot.era (own.since, own.spot.opened) in
+      let within = (near.each b.spot.era x.0 x.1).all b.spot.get_era (own.since, own.read, own.spot.opened, own.spot.read_opened, own.spot.near) in (
+        in_eras c b.spot.era b.spot.get_era,
+        in-spots cs xs b.spot.era b.spot.get_era x.0 c x.1 within.0 within.1 (classes.all c (class-there r b.spot own.tree own.member own.since own.read own.spot)),
         record { spot = refl; is = own },
       )
 
-  same_block : (s : ClassInEra) (b c : BlockValue) → IsBlockFor r s b → IsBlockFor r s c → b ≡ c
+  same_block : (s : ClassInEras) (b c : BlockValue) → IsBlockFor r s b → IsBlockFor r s c → b ≡ c
   same_block s b c h g = one_block r b c h.is g.is (h.spot ∙ sym g.spot)
 
-  module _ (f : Gap) (t : ReportsGapIn r (classes_in_eras cs n) f) where
+  module _ (f : Gap) (t : ReportsGapIn r (classes_in_eras cs xs) f) where
     abbrev here : BlockValue
     here = t.reports.block
 
@@ -62,7 +64,7 @@ module _ (r : RoutesValue) (cs : List RouteClass) (n : ℕ) (classes : AreRouteC
         (λ l j has low less. before_gap here t.reports.block_is.is.has.readable.rising t.reports.reports.number f.at t.reports.reports.gap l j has low less)
 
     -- in a block before it
-    in_before : (b : BlockValue) (s : ClassInEra) → Contains t.before s → IsBlockFor r s b → (l : LegValue) (j : ℕ) → Contains b.readable l → j < length l.servers → HasReason b l j
+    in_before : (b : BlockValue) (s : ClassInEras) → Contains t.before s → IsBlockFor r s b → (l : LegValue) (j : ℕ) → Contains b.readable l → j < length l.servers → HasReason b l j
     in_before b s at block_is l j has low =
         let c = zip_there (IsBlockFor r) t.before t.blocks s t.blocks_are at in
         let reasons : All (HasReasons c.0) c.0.readable = All-contains (λ d. All (HasReasons d) d.readable) t.blocks c.0 t.reasons c.1 in
@@ -71,9 +73,9 @@ module _ (r : RoutesValue) (cs : List RouteClass) (n : ℕ) (classes : AreRouteC
         All-contains (HasReasons b) b.readable l own_reasons has j low
 
     -- a block behind it comes behind
-    in_behind : (b : BlockValue) (s : ClassInEra) → Contains t.behind s → IsBlockFor r s b → spot_cmp here.spot b.spot ≡ Less
+    in_behind : (b : BlockValue) (s : ClassInEras) → Contains t.behind s → IsBlockFor r s b → spot_cmp here.spot b.spot ≡ Less
     in_behind b s at block_is =
-        let rise = spots_behind r t.before (t.spot ∷ t.behind) (subst (AreClassesInEras r) t.parts (spots_are r cs n classes count)) in
+        let rise = spots_behind r t.before (t.spot ∷ t.behind) (subst (AreClassesInEras r) t.parts (spots_are r cs xs classes near)) in
         let later : spot_cmp (spot_of t.spot) (spot_of s) ≡ Less = All-contains (λ u. spot_cmp (spot_of t.spot) (spot_of u) ≡ Less) t.behind s (All-from_recursion (λ u. spot_cmp (spot_of t.spot) (spot_of u) ≡ Less) t.behind rise.1) at in
         same-cmp r t.spot s here b t.reports.block_is block_is ∙ later
 

@@ -20,5 +20,5 @@ leg_there legs n d l is =
     let own = slice_get-get_or legs n d (leg_within legs n l is) in
     same_Some (leg_of (get_or legs n d)) l (sym (slice_get-map leg_of legs n ∙ ap (option_map leg_of) own) ∙ is)
 
-pub placed_at : (b : BlockValue) (l : LegValue) (class leaf : List ℕ) → class ≡ b.spot.class → leaf ≡ l.position → ◌≡◌ {A = PlaceValue} (place_required (require b l)) (record { spot = record { route = b.spot.route; class = class; era = b.spot.era }; leaf = leaf })
+pub placed_at : (b : BlockValue) (l : LegValue) (class leaf : List ℕ) → class ≡ b.spot.class → leaf ≡ l.position → ◌≡◌ {A = PlaceValue} (place_required (require b l)) (record { spot = record { route = b.spot.route; class = class; era = b.spot.era; get_era = b.spot.get_era }; leaf = leaf })
 placed_at b l class leaf h g = rw (h, g) refl

@@ -1,6 +1,5 @@
 pub mod Lists
-pub mod Spots
-pub mod GapsOfSpots
+pub mod SpotBySpot
 pub mod Places
 pub mod BlockGap
 pub mod FirstGap

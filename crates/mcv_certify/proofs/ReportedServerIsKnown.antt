@@ -18,6 +18,6 @@ server_known r sound b own l i x has is =
     let there : Contains r.entries entry = (b.spot.route, slice_get_within r.entries b.spot.route entry own.spot.numbered, get_or_from_slice_get r.entries b.spot.route entry entry own.spot.numbered) in
     let tree : IsSoundTree (length r.servers) r.symbols entry.tree = All-contains (λ (e : RouteEntry). IsSoundTree (length r.servers) r.symbols e.tree) r.entries entry sound there in
     let same : IsSoundTree (length r.servers) r.symbols own.tree = subst (IsSoundTree (length r.servers) r.symbols) own.spot.has_tree tree in
-    let pool = pool_of_leg own.tree (IsReadableAt own.tree own.member own.since) b.readable own.has.readable l has in
+    let pool = pool_of_leg own.tree (IsReadableAt own.tree own.member own.read) b.readable own.has.readable l has in
     let known = (pool_sound (length r.servers) r.symbols own.tree l.position (pool_for l) same pool).known in
     subst (λ y. y < length r.servers) (get_or_from_slice_get l.servers i x x is) (known i x (slice_get_within l.servers i x is))

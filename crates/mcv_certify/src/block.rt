@@ -3,7 +3,7 @@
 ghost use Rattle.std.specs.Prelude.{All, IfErr, OnOk};
 ghost use Rattle.mcv_judge.specs.Answers.{AnswersBlock};
 ghost use Rattle.mcv_judge.specs.Faults.{AreLegsRising};
-ghost use Rattle.mcv_judge.specs.PairsInMemory.{block_of, legs_of, pairs_of};
+ghost use Rattle.mcv_judge.specs.PairsInMemory.{block_of, legs_of, pairs_of, spot_of};
 ghost use Rattle.mcv_pairs.specs.AddedPairs.{Adds};
 ghost use Rattle.mcv_pairs.specs.Gaps.{IsSized};
 ghost use Rattle.mcv_pairs.specs.Reasons.{IsPickedIn};
@@ -11,7 +11,7 @@ ghost use Rattle.mcv_certify.specs.Gap.{IfLost};
 ghost use Rattle.mcv_certify.specs.BlockSteps.{AddsWith, AreLegsSized, ReportsGapOf, ReportsGapWith};
 
 use crate::gap::{CertifyFault, gap_of};
-use mcv_blocks::{RouteClass, Sets};
+use mcv_blocks::Sets;
 use mcv_cert::Pair;
 use mcv_judge::{Block, Spot};
 use mcv_pairs::push_block;
@@ -31,29 +31,26 @@ fn push_or_report(alloc: Global, block: &Block, pairs: &mut Vec<Pair>) -> Result
     Err(CertifyFault::Lost(gap_of(alloc, block, gap)?))
 }
 
-/// Adds the pairs of the block that the sets of a class make in an era, or reports its first gap.
+/// Adds the pairs of the block at the spot, with the deletes of the one sets and the gets of the others, or reports its
+/// first gap.
 pub fn push_sets(
     alloc: Global,
-    sets: &Sets,
-    class: &RouteClass,
-    era: usize,
+    deletes: &Sets,
+    gets: &Sets,
+    spot: &Spot,
     pairs: &mut Vec<Pair>,
 ) -> Result<(), CertifyFault>
-    requires { AreLegsSized sets.now }
-    ensures added { OnOk result (AddsWith sets.now class.now era (pairs_of pairs.old.items) (pairs_of pairs.new.items)) }
-    ensures lost { IfErr result (λ f. IfLost f (ReportsGapWith sets.now class.now era)) }
+    requires { AreLegsSized deletes.now }
+    ensures added { OnOk result (AddsWith deletes.now gets.now (spot_of spot.now) (pairs_of pairs.old.items) (pairs_of pairs.new.items)) }
+    ensures lost { IfErr result (λ f. IfLost f (ReportsGapWith deletes.now gets.now (spot_of spot.now))) }
 {
-    let readable = sets.readable(alloc)?;
-    let acknowledged = sets.acknowledged(alloc)?;
+    let readable = gets.readable(alloc)?;
+    let acknowledged = deletes.acknowledged(alloc)?;
     let block = Block {
-        spot: Spot {
-            route: class.route,
-            class: class.class.word(),
-            era,
-        },
+        spot: *spot,
         readable: readable.as_slice(),
         acknowledged: acknowledged.as_slice(),
-        can_be_acknowledged: sets.can_be_acknowledged(),
+        can_be_acknowledged: deletes.can_be_acknowledged(),
     };
     push_or_report(alloc, &block, pairs)
 }

@@ -12,8 +12,8 @@ use mcv_judge::Block;
 use mcv_pairs::BlockGap;
 use std::alloc::{AllocError, Global};
 
-/// A leaf from which a get or gets can be answered, and an index of it: an acknowledged delete may not have reached
-/// the server that the leaf has there.
+/// A leaf from which a get, gets, incr or decr can be answered, and an index of it: an acknowledged delete may not have
+/// reached the server that the leaf has there.
 #[derive(Drop)]
 pub struct Gap {
     pub place: Place,
@@ -61,6 +61,7 @@ pub fn gap_of(alloc: Global, block: &Block, gap: BlockGap) -> Result<Gap, AllocE
             route: block.spot.route,
             class: copied(alloc, block.spot.class)?,
             era: block.spot.era,
+            get_era: block.spot.get_era,
             leaf: leaf.position.copy(alloc)?,
         },
         at: gap.at,

@@ -1,5 +1,5 @@
 pub mod Steps
-pub mod Eras
+pub mod SpotBySpot
 pub mod Classes
 pub mod NoFaultOfJustified
 pub mod JudgedSets

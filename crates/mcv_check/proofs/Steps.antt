@@ -7,7 +7,7 @@ use Rattle.mcv_judge.specs.Reason.{BlockValue}
 use Rattle.mcv_judge.specs.declared.fault.PairFault.{PairFault}
 use Rattle.mcv_judge.proofs.Bridge.{carried}
 use Rattle.mcv_route.specs.Routes.{IsSoundRoutes, RoutesValue}
-use Rattle.mcv_blocks.specs.Spots.{IsBlockFor, ClassInEra}
+use Rattle.mcv_blocks.specs.Spots.{IsBlockFor, ClassInEras}
 use Rattle.mcv_blocks.proofs.BlocksOfSpots.{in_order}
 use Rattle.mcv_blocks.proofs.BlockAtEachSpot.{blocks_exist}
 use Rattle.mcv_check.specs.Judgements.{IsJudged, Leaves, Stops}
@@ -15,7 +15,7 @@ use Rattle.mcv_check.specs.declared.fault.CheckFault.TheVariants.{Pair}
 
 -- ---- one block
 
-module _ (r : RoutesValue) (sound : IsSoundRoutes r) (s : ClassInEra) (b : BlockValue) (is : IsBlockFor r s b) (pairs : List PairValue) where
+module _ (r : RoutesValue) (sound : IsSoundRoutes r) (s : ClassInEras) (b : BlockValue) (is : IsBlockFor r s b) (pairs : List PairValue) where
   pub block_leaves : (rest : List PairValue) → ((later : List BlockValue) → AreInOrder (b ∷ later) → HaveSameFaults pairs (b ∷ later) rest later) → Leaves r pairs (s ∷ []) rest
   block_leaves rest same more order later z = (b ∷ later, (is, z), same later (in_order r (s ∷ more) (b ∷ later) sound order (is, z)))
 
@@ -26,20 +26,20 @@ module _ (r : RoutesValue) (sound : IsSoundRoutes r) (s : ClassInEra) (b : Block
 
 -- ---- steps
 
-pub nothing_judged : (r : RoutesValue) (pairs : List PairValue) (all : List ClassInEra) → IsJudged r pairs all pairs all
+pub nothing_judged : (r : RoutesValue) (pairs : List PairValue) (all : List ClassInEras) → IsJudged r pairs all pairs all
 nothing_judged r pairs all later z = (later, z, λ s i. refl)
 
-pub further : (r : RoutesValue) (pairs rest last : List PairValue) (all mid left : List ClassInEra) → IsJudged r pairs all rest mid → IsJudged r rest mid last left → IsJudged r pairs all last left
+pub further : (r : RoutesValue) (pairs rest last : List PairValue) (all mid left : List ClassInEras) → IsJudged r pairs all rest mid → IsJudged r rest mid last left → IsJudged r pairs all last left
 further r pairs rest last all mid left f g later z =
     let m = g later z in
     let w = f m.0 m.1 in
     (w.0, w.1, λ s i. w.2 s i ∙ m.2 s i)
 
 -- a fault at spots
-abbrev pub IsFirstAt : RoutesValue → List PairValue → List ClassInEra → PairFault → Type 0
+abbrev pub IsFirstAt : RoutesValue → List PairValue → List ClassInEras → PairFault → Type 0
 IsFirstAt r pairs ss fault = (blocks : List BlockValue) × AllZip (IsBlockFor r) ss blocks × IsFirstFault pairs blocks fault
 
-pub brought-back : (r : RoutesValue) (pairs rest : List PairValue) (all left : List ClassInEra) (fault : PairFault) → IsJudged r pairs all rest left → IsFirstAt r rest left fault → IsFirstAt r pairs all fault
+pub brought-back : (r : RoutesValue) (pairs rest : List PairValue) (all left : List ClassInEras) (fault : PairFault) → IsJudged r pairs all rest left → IsFirstAt r rest left fault → IsFirstAt r pairs all fault
 brought-back r pairs rest all left fault f h =
     let w = f h.0 h.1 in
     (w.0, w.1, carried pairs rest w.0 h.0 fault w.2 h.2)

@@ -2,7 +2,7 @@
 
 ghost use Rattle.std.specs.Prelude.{◌≡◌, IfErr, IfOk};
 ghost use Rattle.mcv_blocks.specs.Blocks.{IsJustifiedBy};
-ghost use Rattle.mcv_check.specs.Fault.{IsFaultOfPairs};
+ghost use Rattle.mcv_check.specs.Fault.{IsFaultOfCertificate};
 ghost use Rattle.mcv_check.specs.declared.fault.CheckFault.TheVariants.{Memory as OutOfMemory};
 
 use crate::fault::CheckFault;
@@ -36,28 +36,38 @@ impl Model for Accepted {
 impl Accepted {
     ghost use Rattle.mcv_symbolic.specs.CoveredRoutes.{AreCovered};
 
-    /// The routes. They are covered at every rest, in every era.
+    /// The routes. They are covered at every rest, by a delete in every era and a get in each that is near it.
     pub fn routes(&self) -> &Routes
         ensures value { result.now ≡ self.now }
         ensures covered { AreCovered self.now }
     {
         &self.routes
     }
+
+    /// How far apart, in seconds, a delete and a get were looked at.
+    pub fn window(&self) -> u64
+        ensures { result ≡ self.now.window }
+    {
+        self.routes.window()
+    }
 }
 
-/// Judges the certificate against the routes: accepts it exactly when it is justified, or else reports the first fault
-/// in it.
+/// Judges the certificate against the routes, looked at within their window: accepts it exactly when it is justified,
+/// or else reports that it is for another window, and then the first fault in it.
 ///
-/// An error drops the routes. `Memory` may come for any certificate.
+/// An error drops the routes. `Memory` may come for any certificate that is for the window.
 pub fn check(
     alloc: Global,
     routes: Routes,
     certificate: &Certificate,
 ) -> Result<Accepted, CheckFault>
     ensures accepted { IfOk result (λ a. (a ≡ routes) × IsJustifiedBy routes certificate.now) }
-    ensures fault { IfErr result (IsFaultOfPairs routes certificate.now) }
+    ensures fault { IfErr result (IsFaultOfCertificate routes certificate.now) }
     ensures justified { IsJustifiedBy routes certificate.now → IfErr result (λ f. f ≡ OutOfMemory) }
 {
+    if certificate.window() != routes.window() {
+        return Err(CheckFault::Window);
+    }
     one_list_of_blocks();
     justified_is_covered();
     // Routes are sound.

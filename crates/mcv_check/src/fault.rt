@@ -16,16 +16,20 @@ pub enum CheckFault {
     Pair(PairFault),
     #[error("out of memory")]
     Memory,
+    /// It isn't for the window of the routes.
+    #[error("the certificate is for another window")]
+    Window,
 }
 
 impl CheckFault {
-    /// Its number: that of a `PairFault`, from 1 to 5, and 6 where memory ran out.
+    /// Its number: that of a `PairFault`, from 1 to 5, 6 where memory ran out, and 7 for the window.
     pub fn number(self) -> u8
         ensures { result ≡ fault_number self }
     {
         match self {
             CheckFault::Pair(fault) => fault.number(),
             CheckFault::Memory => 6,
+            CheckFault::Window => 7,
         }
     }
 }

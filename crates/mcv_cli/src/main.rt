@@ -6,6 +6,7 @@ use mcv_check::Accepted;
 use mcv_command::{Ending, Proxy, Stop, SystemFiles, exit_status, given_words, run_words};
 use mcv_input::RunFault;
 use mcv_net::{NetFault, SpoolFiles, serve};
+use mcv_words::{RunOptions, Settings};
 use std::alloc::{AllocError, Global};
 use std::cell::Cell;
 use std::fs::Files;
@@ -25,31 +26,31 @@ fn main(rt: HostRuntime) -> ExitCode {
     ExitCode::from(exit_status(&ended))
 }
 
-/// What is to be served: the routes, the address, the name of the spool's file, how many sessions, and by how many proxies.
+/// What is to be served: the routes, and the options with texts of its own.
 #[derive(Drop)]
 struct Order {
     accepted: Arc<Accepted>,
     listen: String,
     spool: String,
-    sessions: u64,
-    proxies: u64,
+    settings: Settings,
 }
 
 impl Order {
     fn new(
         alloc: Global,
         accepted: Arc<Accepted>,
-        listen: &str,
-        spool: &str,
-        sessions: u64,
-        proxies: u64,
+        options: RunOptions<'_>,
     ) -> Result<Order, AllocError> {
+        let RunOptions {
+            listen,
+            spool,
+            settings,
+        } = options;
         Ok(Order {
             accepted,
             listen: String::from_str(alloc, listen)?,
             spool: String::from_str(alloc, spool)?,
-            sessions,
-            proxies,
+            settings,
         })
     }
 }
@@ -64,19 +65,16 @@ struct Orders {
 impl Proxy for Orders {
     ghost use Rattle.std.specs.Prelude.{⊤};
 
-    ghost serves = { λ _ _ _ _ _ _ _ _. ⊤ };
+    ghost serves = { λ _ _ _ _ _. ⊤ };
 
     fn serve<W: Write>(
         &self,
         alloc: Global,
         accepted: Arc<Accepted>,
-        listen: &str,
-        spool: &str,
-        sessions: u64,
-        proxies: u64,
+        options: RunOptions<'_>,
         _out: &mut W,
     ) -> Result<(), RunFault> {
-        match Order::new(alloc, accepted, listen, spool, sessions, proxies) {
+        match Order::new(alloc, accepted, options) {
             Ok(order) => {
                 self.order.set(Some(order));
                 Ok(())
@@ -123,11 +121,14 @@ where
         accepted,
         listen,
         spool,
-        sessions,
-        proxies,
+        settings,
     } = order;
-    let (listen, spool) = (listen.as_str(), spool.as_str());
-    match serve(rt, alloc, accepted, listen, spool, sessions, proxies, out) {
+    let options = RunOptions {
+        listen: listen.as_str(),
+        spool: spool.as_str(),
+        settings,
+    };
+    match serve(rt, alloc, accepted, options, out) {
         Ok(()) => Ok(Ending::Done),
         Err(NetFault::Memory) => Err(Stop::Run(RunFault::Memory)),
         Err(NetFault::Device) => Err(Stop::Run(RunFault::Device)),

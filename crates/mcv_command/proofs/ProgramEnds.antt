@@ -8,26 +8,28 @@ use Rattle.mcv_cert.specs.Reading.{Reading, Says, headless, over, reads, text_li
 use Rattle.mcv_input.proofs.FirstBytes.{whole}
 use Rattle.mcv_input.specs.Fault.{IsOutside}
 use Rattle.mcv_input.specs.declared.fault.RunFault.{RunFault}
-use Rattle.mcv_input.specs.declared.fault.RunFault.TheVariants.{Line, NoRoute, Config, CertificateText, Certificate, Memory, Device}
+use Rattle.mcv_input.specs.declared.fault.RunFault.TheVariants.{Line, NoRoute, Config, CertificateText, Certificate, Window, Memory, Device}
 use Rattle.mcv_verdict.specs.Fault as check
 use Rattle.mcv_verdict.specs.Verdict.{IsVerdictOn}
 use Rattle.mcv_verdict.specs.declared.verdict.Verdict.{Verdict}
 use Rattle.mcv_verdict.specs.declared.verdict.Verdict.TheVariants.{Covered, Lost}
 use Rattle.mcv_command.specs.declared.stop.Stop.{Stop}
 use Rattle.mcv_command.specs.declared.stop.Stop.TheVariants.{BadLine, Run}
-use Rattle.mcv_command.specs.Program.{AsksAnyRun, Held, IfGiven, IsJudgingFault, IsStop}
-use Rattle.mcv_words.specs.Words.{AsksCheck}
+use Rattle.mcv_command.specs.Program.{Held, IfGiven, IsJudgingFault, IsStop}
+use Rattle.mcv_words.specs.Words.{AsksCheck, AsksRun, RunOrder}
+use Rattle.mcv_words.specs.declared.options.Window as asked
 
 -- ---- the faults of a verdict, as the program's
 
-pub judging_stop : (words : List Text) (held : Held) (input : Option Text) (cert : Option Text) (stop : Stop) → AsksCheck words cert → IsJudgingFault held cert input stop
-    → IsStop words held input stop
-judging_stop words held input cert BadLine asks holds = absurd holds
-judging_stop words held input cert (Run fault) asks holds = inr (inr (inl (cert, asks, holds)))
+pub judging_stop : (words : List Text) (held : Held) (input : Option Text) (cert : Option Text) (window : asked.Window) (stop : Stop) → AsksCheck words cert window
+    → IsJudgingFault held cert window.seconds input stop → IsStop words held input stop
+judging_stop words held input cert window BadLine asks holds = absurd holds
+judging_stop words held input cert window (Run fault) asks holds = inr (inr (inl (cert, window, asks, holds)))
 
-pub running_stop : (words : List Text) (held : Held) (input : Option Text) (stop : Stop) → AsksAnyRun words → IsJudgingFault held None input stop → IsStop words held input stop
-running_stop words held input BadLine asks holds = absurd holds
-running_stop words held input (Run fault) asks holds = inr (inr (inr (asks, holds)))
+pub running_stop : (words : List Text) (held : Held) (input : Option Text) (order : RunOrder) (stop : Stop) → AsksRun words order
+    → IsJudgingFault held None order.settings.window.seconds input stop → IsStop words held input stop
+running_stop words held input order BadLine asks holds = absurd holds
+running_stop words held input order (Run fault) asks holds = inr (inr (inr (order, asks, holds)))
 
 -- a fault that is outside is out of memory or a device's
 pub outside_stop : (stop : Stop) (fault : RunFault) → stop ≡ Run fault → IsOutside fault → stop ≢ Run Device → stop ≢ Run Memory → ⊥
@@ -47,23 +49,25 @@ says_all text first r is (over long) =
 says_all text first r is (headless short none) =
     let same : first ≡ text = is ∙ whole read_limit text (subst (λ (xs : List ℕ). length xs < read_limit) is (omega arith)) in
     subst (λ (xs : List ℕ). Says xs r) same (headless short none)
-says_all text first r is (reads body s short starts behind) =
+says_all text first r is (reads w body s small short starts behind) =
     let same : first ≡ text = is ∙ whole read_limit text (subst (λ (xs : List ℕ). length xs < read_limit) is (omega arith)) in
-    subst (λ (xs : List ℕ). Says xs s) same (reads body s short starts behind)
+    subst (λ (xs : List ℕ). Says xs s) same (reads w body s small short starts behind)
 
-pub verdict_by_all : (input text first : List ℕ) (verdict : Verdict) (written : List ℕ) → first ≡ take read_limit text → IsVerdictOn input (Some first) verdict written
-    → IsVerdictOn input (Some text) verdict written
-verdict_by_all input text first (Covered n) written is on = (on.0, on.1, (on.2.0, says_all text first _ is on.2.1, on.2.2, on.2.3, on.2.4))
-verdict_by_all input text first Lost written is on = absurd on.2
+pub verdict_by_all : (input : List ℕ) (window : ℕ) (text first : List ℕ) (verdict : Verdict) (written : List ℕ) → first ≡ take read_limit text
+    → IsVerdictOn input window (Some first) verdict written → IsVerdictOn input window (Some text) verdict written
+verdict_by_all input window text first (Covered n) written is on = (on.0, on.1, (on.2.0, says_all text first _ is on.2.1, on.2.2, on.2.3, on.2.4))
+verdict_by_all input window text first Lost written is on = absurd on.2
 
-pub fault_by_all : (input text first : List ℕ) (fault : RunFault) → first ≡ take read_limit text → check.IsRunFault input (Some first) fault → check.IsRunFault input (Some text) fault
-fault_by_all input text first Line is holds = holds
-fault_by_all input text first NoRoute is holds = holds
-fault_by_all input text first (Config fault) is holds = holds
-fault_by_all input text first (CertificateText fault) is holds = (holds.0, holds.1, says_all text first _ is holds.2)
-fault_by_all input text first (Certificate fault) is holds = (holds.0, holds.1, (holds.2.0, says_all text first _ is holds.2.1, holds.2.2))
-fault_by_all input text first Memory is holds = tt
-fault_by_all input text first Device is holds = tt
+pub fault_by_all : (input : List ℕ) (window : ℕ) (text first : List ℕ) (fault : RunFault) → first ≡ take read_limit text → check.IsRunFault input window (Some first) fault
+    → check.IsRunFault input window (Some text) fault
+fault_by_all input window text first Line is holds = holds
+fault_by_all input window text first NoRoute is holds = holds
+fault_by_all input window text first (Config fault) is holds = holds
+fault_by_all input window text first (CertificateText fault) is holds = (holds.0, holds.1, says_all text first _ is holds.2)
+fault_by_all input window text first (Certificate fault) is holds = (holds.0, holds.1, (holds.2.0, says_all text first _ is holds.2.1, holds.2.2))
+fault_by_all input window text first Window is holds = (holds.0, holds.1, (holds.2.0, holds.2.1, says_all text first _ is holds.2.2, holds.2.3))
+fault_by_all input window text first Memory is holds = tt
+fault_by_all input window text first Device is holds = tt
 
 -- what follows from the first bytes of a file follows from what it holds; where that isn't known, these are some bytes
 given_one : (known : Option Text) (first : List ℕ) (P : Option Text → Type 0) → IfSome known (λ all. first ≡ take read_limit all)

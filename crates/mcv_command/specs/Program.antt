@@ -7,13 +7,14 @@ use Rattle.mcv_base.specs.declared.request.Moment.{Moment}
 use Rattle.mcv_input.specs.Fault.{AreNamedBy, IsOutside}
 use Rattle.mcv_legs.specs.Answer.{IsAnswer}
 use Rattle.mcv_legs.specs.Fault as legs
-use Rattle.mcv_route.specs.Routes.{RoutesValue}
+use Rattle.mcv_route.specs.Routes.{RoutesValue, within}
 use Rattle.mcv_symbolic.specs.CoveredRoutes.{AreCovered}
 use Rattle.mcv_verdict.specs.Fault as check
 use Rattle.mcv_verdict.specs.Verdict.{IsVerdictOn}
 use Rattle.mcv_verdict.specs.declared.verdict.Verdict.{Verdict}
 use Rattle.mcv_verdict.specs.declared.verdict.Verdict.TheVariants as verdicts
-use Rattle.mcv_words.specs.Words.{AsksCheck, AsksRun, IsJobOf, IsLineFault, faults}
+use Rattle.mcv_words.specs.Words.{AsksCheck, AsksRun, IsJobOf, IsLineFault, RunOrder, faults}
+use Rattle.mcv_words.specs.declared.options.Window.{Window}
 use Rattle.mcv_words.specs.declared.words.Job.TheVariants as jobs
 use Rattle.mcv_words.specs.declared.words.LineFault.TheVariants as line_fault
 use Rattle.mcv_command.specs.declared.stop.Ending.{Ending}
@@ -34,31 +35,31 @@ abbrev pub ending_of : Verdict → Ending
 ending_of (verdicts.Covered pairs) = Done
 ending_of verdicts.Lost = Lost
 
--- the verdict on the input was written, by the certificate that is given, and the program ends so
-abbrev pub IsJudged : Held → Option Text → (input old new : Option Text) → Ending → Type 0
-IsJudged held cert input old new ending =
-    (verdict : Verdict) × (text : Text) × IfSome input (λ bytes. IfGiven held cert (λ certificate. IsVerdictOn bytes certificate verdict text))
+-- the verdict on the input within the window was written, by the certificate that is given, and the program ends so
+abbrev pub IsJudged : Held → Option Text → (window : ℕ) → (input old new : Option Text) → Ending → Type 0
+IsJudged held cert window input old new ending =
+    (verdict : Verdict) × (text : Text) × IfSome input (λ bytes. IfGiven held cert (λ certificate. IsVerdictOn bytes window certificate verdict text))
     × Appends old new text × (ending ≡ ending_of verdict)
 
 -- memory ran out, or a device failed; or the fault is in the input or in the certificate that is given
-abbrev pub IsJudgingFault : Held → Option Text → (input : Option Text) → Stop → Type 0
-IsJudgingFault held cert input BadLine = ⊥
-IsJudgingFault held cert input (Run fault) = IsOutside fault ⊎ IfSome input (λ bytes. IfGiven held cert (λ certificate. check.IsRunFault bytes certificate fault))
+abbrev pub IsJudgingFault : Held → Option Text → (window : ℕ) → (input : Option Text) → Stop → Type 0
+IsJudgingFault held cert window input BadLine = ⊥
+IsJudgingFault held cert window input (Run fault) = IsOutside fault ⊎ IfSome input (λ bytes. IfGiven held cert (λ certificate. check.IsRunFault bytes window certificate fault))
 
--- what it is that routes were served: at an address, with the spool in the file of this name, until so many sessions had ended, by so many
--- proxies side by side, from what the writer held to what it holds
+-- what it is that routes were served as `run` was asked for, from what the writer held to what it holds
 abbrev pub Serves : Type 1
-Serves = RoutesValue → (listen spool : Text) → (sessions proxies : ℕ) → (old new : Option Text) → Type 0
+Serves = RoutesValue → RunOrder → (old new : Option Text) → Type 0
 
--- the input names routes, these are covered, and the proxy served them; or the verdict that they aren't was written
-abbrev pub IsServed : Held → Serves → (listen spool : Text) → (sessions proxies : ℕ) → (input old new : Option Text) → Ending → Type 0
-IsServed held serves listen spool sessions proxies input old new ending =
-    ((r : RoutesValue) × IfSome input (λ bytes. AreNamedBy bytes r) × AreCovered r × serves r listen spool sessions proxies old new × (ending ≡ Done))
-    ⊎ (IsJudged held None input old new Lost × (ending ≡ Lost))
+-- the input names routes, these are covered within the window, and the proxy served them; or the verdict that they aren't was written
+abbrev pub IsServed : Held → Serves → RunOrder → (input old new : Option Text) → Ending → Type 0
+IsServed held serves order input old new ending =
+    ((r : RoutesValue) × IfSome input (λ bytes. AreNamedBy bytes r) × AreCovered (within order.settings.window.seconds r)
+    × serves (within order.settings.window.seconds r) order old new × (ending ≡ Done))
+    ⊎ (IsJudged held None order.settings.window.seconds input old new Lost × (ending ≡ Lost))
 
 -- the words ask for a run
 abbrev pub AsksAnyRun : List Text → Type 0
-AsksAnyRun words = (listen : Text) × (spool : Text) × (sessions : ℕ) × (proxies : ℕ) × AsksRun words listen spool sessions proxies
+AsksAnyRun words = (order : RunOrder) × AsksRun words order
 
 abbrev pub version_line : Text
 version_line = codes "mcv 1\n"
@@ -74,9 +75,8 @@ abbrev pub IsDone : List Text → Held → Serves → (input old new : Option Te
 IsDone words held serves input old new ending =
     ((text : Text) × IsShownFor words text × Appends old new text × (ending ≡ Done))
     ⊎ (((at : Moment) × IsJobOf words (jobs.Legs at) × (text : Text) × IfSome input (λ bytes. IsAnswer at.0 bytes text) × Appends old new text × (ending ≡ Done))
-    ⊎ (((cert : Option Text) × AsksCheck words cert × IsJudged held cert input old new ending)
-    ⊎ ((listen : Text) × (spool : Text) × (sessions : ℕ) × (proxies : ℕ) × AsksRun words listen spool sessions proxies
-    × IsServed held serves listen spool sessions proxies input old new ending)))
+    ⊎ (((cert : Option Text) × (window : Window) × AsksCheck words cert window × IsJudged held cert window.seconds input old new ending)
+    ⊎ ((order : RunOrder) × AsksRun words order × IsServed held serves order input old new ending)))
 
 -- the words are at fault; or memory ran out, or a device failed; or the words ask for legs, for a verdict or for a run, and the fault is in
 -- what was read
@@ -85,5 +85,5 @@ IsStop words held input BadLine = IsLineFault words line_fault.BadLine
 IsStop words held input (Run fault) =
     IsOutside fault
     ⊎ (((at : Moment) × IsJobOf words (jobs.Legs at) × IfSome input (λ bytes. legs.IsRunFault bytes fault))
-    ⊎ (((cert : Option Text) × AsksCheck words cert × IsJudgingFault held cert input (Run fault))
-    ⊎ (AsksAnyRun words × IsJudgingFault held None input (Run fault))))
+    ⊎ (((cert : Option Text) × (window : Window) × AsksCheck words cert window × IsJudgingFault held cert window.seconds input (Run fault))
+    ⊎ ((order : RunOrder) × AsksRun words order × IsJudgingFault held None order.settings.window.seconds input (Run fault))))

@@ -1,9 +1,10 @@
 //! The program, over any reader and writer in place of standard input and output, any files and any proxy.
 
-ghost use Rattle.std.specs.Prelude.{◌≡◌, ◌≢◌, ◌≤◌, None, Some, IfErr, IfOk, map};
+ghost use Rattle.std.specs.Prelude.{◌≡◌, ◌≢◌, None, Some, IfErr, IfOk, map};
 ghost use Rattle.mcv_command.specs.Program.{AsksAnyRun, Held, IsDone, IsJudged, IsJudgingFault, IsServed, IsStop, ending_of};
 ghost use Rattle.mcv_command.specs.declared.stop.Stop.TheVariants.{Run};
 ghost use Rattle.mcv_input.specs.declared.fault.RunFault.TheVariants.{Device, Memory};
+ghost use Rattle.mcv_words.specs.Words.{order_of};
 
 use crate::files::NamedFiles;
 use crate::proxy::Proxy;
@@ -11,7 +12,7 @@ use crate::stop::{Ending, Stop};
 use mcv_input::{RunFault, write_text};
 use mcv_legs::run_legs;
 use mcv_verdict::{Judgement, Verdict, judge_input, run_check};
-use mcv_words::{Job, LineFault, read_words};
+use mcv_words::{Job, LineFault, RunOptions, Window, read_words};
 use std::alloc::Global;
 use std::io::{Read, Write};
 use std::sync::Arc;
@@ -29,30 +30,36 @@ fn ending_of(verdict: Verdict) -> Ending
     }
 }
 
-/// Judges a configuration by a certificate that is made here.
-fn judge<R: Read, W: Write>(alloc: Global, reader: &mut R, writer: &mut W) -> Result<Ending, Stop>
-    ensures done { (held : Held) → IfOk result (IsJudged held None (R.remaining reader.old) (W.contents writer.old) (W.contents writer.new)) }
-    ensures stop { (held : Held) → IfErr result (IsJudgingFault held None (R.remaining reader.old)) }
+/// Judges a configuration within the window by a certificate that is made here.
+fn judge<R: Read, W: Write>(
+    alloc: Global,
+    window: Window,
+    reader: &mut R,
+    writer: &mut W,
+) -> Result<Ending, Stop>
+    ensures done { (held : Held) → IfOk result (IsJudged held None window.seconds (R.remaining reader.old) (W.contents writer.old) (W.contents writer.new)) }
+    ensures stop { (held : Held) → IfErr result (IsJudgingFault held None window.seconds (R.remaining reader.old)) }
     ensures silent { IfErr result (λ stop. stop ≢ Run Device → W.contents writer.new ≡ W.contents writer.old) }
 {
-    let verdict = run_check(alloc, reader, writer, None)?;
+    let verdict = run_check(alloc, reader, writer, None, window.seconds)?;
     Ok(ending_of(verdict))
 }
 
-/// Judges a configuration by the certificate in the file of this name, which is read first.
+/// Judges a configuration within the window by the certificate in the file of this name, which is read first.
 fn judge_by<R: Read, W: Write, F: NamedFiles>(
     alloc: Global,
     name: &str,
+    window: Window,
     files: &F,
     reader: &mut R,
     writer: &mut W,
 ) -> Result<Ending, Stop>
-    ensures done { IfOk result (IsJudged (F.held files.now) (Some name.now) (R.remaining reader.old) (W.contents writer.old) (W.contents writer.new)) }
-    ensures stop { IfErr result (IsJudgingFault (F.held files.now) (Some name.now) (R.remaining reader.old)) }
+    ensures done { IfOk result (IsJudged (F.held files.now) (Some name.now) window.seconds (R.remaining reader.old) (W.contents writer.old) (W.contents writer.new)) }
+    ensures stop { IfErr result (IsJudgingFault (F.held files.now) (Some name.now) window.seconds (R.remaining reader.old)) }
     ensures silent { IfErr result (λ stop. stop ≢ Run Device → W.contents writer.new ≡ W.contents writer.old) }
 {
     let text = files.read_named(alloc, name, CERTIFICATE_LIMIT)?;
-    let verdict = run_check(alloc, reader, writer, Some(text.as_slice()))?;
+    let verdict = run_check(alloc, reader, writer, Some(text.as_slice()), window.seconds)?;
     Ok(ending_of(verdict))
 }
 
@@ -60,30 +67,22 @@ fn judge_by<R: Read, W: Write, F: NamedFiles>(
 fn serve<R: Read, W: Write, P: Proxy>(
     alloc: Global,
     proxy: &P,
-    listen: &str,
-    spool: &str,
-    sessions: u64,
-    proxies: u64,
+    options: RunOptions<'_>,
     reader: &mut R,
     writer: &mut W,
 ) -> Result<Ending, Stop>
-    requires least { 1 ≤ sessions }
-    requires most { sessions ≤ 1000000000 }
-    requires least_proxies { 1 ≤ proxies }
-    requires most_proxies { proxies ≤ 64 }
-    ensures done { (held : Held) → IfOk result (IsServed held (P.serves proxy.now) listen.now spool.now sessions proxies (R.remaining reader.old)
-        (W.contents writer.old) (W.contents writer.new)) }
-    ensures stop { (held : Held) → IfErr result (IsJudgingFault held None (R.remaining reader.old)) }
+    ensures done { (held : Held) → IfOk result (IsServed held (P.serves proxy.now) (order_of options.entry) (R.remaining reader.old) (W.contents writer.old) (W.contents writer.new)) }
+    ensures stop { (held : Held) → IfErr result (IsJudgingFault held None options.entry.settings.window.seconds (R.remaining reader.old)) }
     ensures silent { IfErr result (λ stop. stop ≢ Run Device → stop ≢ Run Memory → W.contents writer.new ≡ W.contents writer.old) }
 {
-    match judge_input(alloc, reader)? {
+    match judge_input(alloc, reader, options.settings.window.seconds)? {
         Judgement::Covered { accepted, .. } => {
             // The routes are covered.
             let _ = accepted.routes();
             let Ok(shared) = Arc::new(alloc, accepted) else {
                 return Err(Stop::Run(RunFault::Memory));
             };
-            proxy.serve(alloc, shared, listen, spool, sessions, proxies, writer)?;
+            proxy.serve(alloc, shared, options, writer)?;
             Ok(Ending::Done)
         }
         Judgement::Lost { finding } => {
@@ -114,18 +113,14 @@ pub fn run_words<'a, R: Read, W: Write, F: NamedFiles, P: Proxy>(
             run_legs(alloc, reader, writer, at)?;
             Ok(Ending::Done)
         }
-        Ok(Job::Check { cert: None }) => judge(alloc, reader, writer),
-        Ok(Job::Check { cert: Some(name) }) => judge_by(alloc, name, files, reader, writer),
+        Ok(Job::Check { cert: None, window }) => judge(alloc, window, reader, writer),
         Ok(
-            Job::Run {
-                listen,
-                spool,
-                sessions,
-                proxies,
+            Job::Check {
+                cert: Some(name),
+                window,
             },
-        ) => serve(
-            alloc, proxy, listen, spool, sessions, proxies, reader, writer,
-        ),
+        ) => judge_by(alloc, name, window, files, reader, writer),
+        Ok(Job::Run(options)) => serve(alloc, proxy, options, reader, writer),
         Err(LineFault::Help(text)) => {
             write_text(writer, text.as_bytes())?;
             Ok(Ending::Done)

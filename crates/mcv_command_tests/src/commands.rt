@@ -6,7 +6,7 @@ use crate::devices::is_written;
 use mcv_check::Accepted;
 use mcv_command::{Ending, NamedFiles, Proxy, Stop, run_words};
 use mcv_input::{RunFault, read_at_most};
-use mcv_words::{Job, LineFault, read_words};
+use mcv_words::{Job, LineFault, RunOptions, read_words};
 use std::alloc::Global;
 use std::io::Write;
 use std::process::Abort;
@@ -22,32 +22,51 @@ mcv legs --at soon: bad line
 mcv legs --at: bad line
 mcv legs --at 1 --at 1: bad line
 mcv --at 1 legs: bad line
-mcv check: check
-mcv check --cert a.cert: check by a.cert
-mcv check --cert=: check by 
+mcv check: check 0
+mcv check --cert a.cert: check 0 by a.cert
+mcv check --window 604800: check 604800
+mcv check --window=4294967295 --cert a.cert: check 4294967295 by a.cert
+mcv check --window 4294967296: bad line
+mcv check --window -1: bad line
+mcv check --window: bad line
+mcv check --window 1 --window 1: bad line
+mcv legs --window 1: bad line
+mcv check --cert=: check 0 by 
 mcv check --cert: bad line
 mcv check --cert a --cert b: bad line
 mcv check a.cert: bad line
 mcv check --at 1: bad line
 mcv legs --cert a: bad line
-mcv run --listen h:1 --spool f: run h:1 f 1000000000 1
-mcv run --spool=f --listen=h:1 --sessions=+7: run h:1 f 7 1
-mcv run --listen h:1 --spool f --sessions 1: run h:1 f 1 1
-mcv run --listen h:1 --spool f --sessions 1000000000: run h:1 f 1000000000 1
+mcv run --listen h:1 --spool f: run h:1 f - 1 0 - -
+mcv run --spool=f --listen=h:1 --sessions=+7: run h:1 f 7 1 0 - -
+mcv run --listen h:1 --spool f --sessions 1: run h:1 f 1 1 0 - -
+mcv run --listen h:1 --spool f --sessions 1000000000: run h:1 f 1000000000 1 0 - -
 mcv run --listen h:1 --spool f --sessions 1000000001: bad line
 mcv run --listen h:1 --spool f --sessions 0: bad line
 mcv run --listen h:1 --spool f --sessions -1: bad line
 mcv run --listen h:1 --spool f --sessions all: bad line
 mcv run --listen h:1 --spool f --sessions: bad line
 mcv run --listen h:1 --spool f --sessions 1 --sessions 2: bad line
-mcv run --listen h:1 --spool f --proxies 1: run h:1 f 1000000000 1
-mcv run --listen h:1 --spool f --proxies=64 --sessions 7: run h:1 f 7 64
+mcv run --listen h:1 --spool f --proxies 1: run h:1 f - 1 0 - -
+mcv run --listen h:1 --spool f --proxies=64 --sessions 7: run h:1 f 7 64 0 - -
 mcv run --listen h:1 --spool f --proxies 65: bad line
 mcv run --listen h:1 --spool f --proxies 0: bad line
 mcv run --listen h:1 --spool f --proxies auto: bad line
 mcv run --listen h:1 --spool f --proxies: bad line
 mcv run --listen h:1 --spool f --proxies 1 --proxies 2: bad line
-mcv run --listen= --spool=: run   1000000000 1
+mcv run --listen h:1 --spool f --server-timeout 200: run h:1 f - 1 0 200 -
+mcv run --listen h:1 --spool f --server-timeout=1 --client-timeout=3600000: run h:1 f - 1 0 1 3600000
+mcv run --listen h:1 --spool f --client-timeout 200: run h:1 f - 1 0 - 200
+mcv run --listen h:1 --spool f --server-timeout 0: bad line
+mcv run --listen h:1 --spool f --server-timeout 3600001: bad line
+mcv run --listen h:1 --spool f --server-timeout 1s: bad line
+mcv run --listen h:1 --spool f --server-timeout: bad line
+mcv run --listen h:1 --spool f --client-timeout 0: bad line
+mcv run --listen h:1 --spool f --client-timeout 3600001: bad line
+mcv run --listen h:1 --spool f --client-timeout 1 --client-timeout 1: bad line
+mcv run --listen= --spool=: run   - 1 0 - -
+mcv run --listen h:1 --spool f --window 60: run h:1 f - 1 60 - -
+mcv run --listen h:1 --spool f --window 4294967296: bad line
 mcv run: bad line
 mcv run --listen h:1: bad line
 mcv run --spool f: bad line
@@ -78,17 +97,45 @@ mcv -V: version
 mcv legs --version: bad line
 mcv version: bad line";
 
+/// A number, or `-` for none.
+fn number_text(rt: &(impl AllocGlobal + Abort), number: Option<u64>) -> String {
+    let text = match number {
+        Some(number) => format!(in rt.alloc(); "{number}"),
+        None => format!(in rt.alloc(); "-"),
+    };
+    text.expect(rt, "memory")
+}
+
+/// What `run` is asked for.
+fn order_text(rt: &(impl AllocGlobal + Abort), options: RunOptions<'_>) -> String {
+    let RunOptions {
+        listen,
+        spool,
+        settings,
+    } = options;
+    let sessions = number_text(rt, settings.sessions.map(|sessions| sessions.count));
+    let proxies = settings.proxies.count;
+    let window = settings.window.seconds;
+    let server = number_text(rt, settings.server_timeout.map(|timeout| timeout.millis));
+    let client = number_text(rt, settings.client_timeout.map(|timeout| timeout.millis));
+    let text = format!(in rt.alloc();
+        "{listen} {spool} {sessions} {proxies} {window} {server} {client}"
+    );
+    text.expect(rt, "memory")
+}
+
 fn job_text(rt: &(impl AllocGlobal + Abort), job: Job<'_>) -> String {
     let text = match job {
         Job::Legs { at } => format!(in rt.alloc(); "legs at {}", at.0),
-        Job::Check { cert: None } => format!(in rt.alloc(); "check"),
-        Job::Check { cert: Some(name) } => format!(in rt.alloc(); "check by {name}"),
-        Job::Run {
-            listen,
-            spool,
-            sessions,
-            proxies,
-        } => format!(in rt.alloc(); "run {listen} {spool} {sessions} {proxies}"),
+        Job::Check { cert: None, window } => format!(in rt.alloc(); "check {}", window.seconds),
+        Job::Check {
+            cert: Some(name),
+            window,
+        } => format!(in rt.alloc(); "check {} by {name}", window.seconds),
+        Job::Run(options) => {
+            let order = order_text(rt, options);
+            format!(in rt.alloc(); "run {order}")
+        }
     };
     text.expect(rt, "memory")
 }
@@ -146,24 +193,30 @@ impl<'a> NamedFiles for OneFile<'a> {
 struct Listed;
 
 impl Proxy for Listed {
-    ghost serves = { λ _ _ _ _ _ _ _ _. ⊤ };
+    ghost serves = { λ _ _ _ _ _. ⊤ };
 
     fn serve<W: Write>(
         &self,
         alloc: Global,
         accepted: Arc<Accepted>,
-        listen: &str,
-        spool: &str,
-        sessions: u64,
-        proxies: u64,
+        options: RunOptions<'_>,
         out: &mut W,
     ) -> Result<(), RunFault> {
+        let RunOptions {
+            listen,
+            spool,
+            settings,
+        } = options;
         if listen == "full:1" {
             return Err(RunFault::Memory);
         }
         let servers = accepted.routes().servers().len();
-        let Ok(line) = format!(in alloc; "{listen} {spool} {sessions} {proxies} of {servers}\n")
-        else {
+        let sessions = settings.sessions.map_or(0, |sessions| sessions.count);
+        let proxies = settings.proxies.count;
+        let millis = settings.server_timeout.map_or(0, |timeout| timeout.millis);
+        let Ok(line) = format!(in alloc;
+            "{listen} {spool} {sessions} {proxies} {millis} of {servers}\n"
+        ) else {
             return Err(RunFault::Memory);
         };
         match out.write_all(line.as_bytes()) {
@@ -225,13 +278,15 @@ const MAIN_PARTS: &[&str] = &[
     "  run  ",
     "\n  mcv check < mcrouter.json\n",
     "\n  (echo 'delete a'; cat mcrouter.json) | mcv legs\n",
-    "\n  mcv run --listen 127.0.0.1:5000 --spool mcv.spool < mcrouter.json\n",
+    "\n  mcv run --listen 127.0.0.1:5000 --spool mcv.spool --server-timeout 1000 \\\n    < mcrouter.json\n",
     "Exit status:",
 ];
 
 const CHECK_PARTS: &[&str] = &[
-    "Usage: mcv check [--cert FILE] < FILE",
+    "Usage: mcv check [--cert FILE] [--window SECONDS] < FILE",
     "--cert <FILE>",
+    "--window <SECONDS>",
+    "from 0 to 4294967295 [default: 0]",
     "\n  covered 1\n",
     "\n  lost b:11211\n",
     "\n  key /././!\n",
@@ -261,15 +316,17 @@ fn help_names_input_and_exit_statuses(rt: HostRuntime) {
 }
 
 const RUN_PARTS: &[&str] = &[
-    "Usage: mcv run --listen ADDRESS --spool FILE [--sessions N] [--proxies N] < FILE",
+    "Usage: mcv run --listen ADDRESS --spool FILE [OPTIONS] < FILE",
+    "--window <SECONDS>",
     "--listen <ADDRESS>",
     "--spool <FILE>",
     "--sessions <N>",
-    "[default: 1000000000]",
     "--proxies <N>",
     "[default: 1]",
+    "--server-timeout <MS>",
+    "--client-timeout <MS>",
     "mcrouter's `--num-proxies`",
-    "\n  mcv run --listen 127.0.0.1:5000 --spool mcv.spool < mcrouter.json\n",
+    "\n  mcv run --listen 127.0.0.1:5000 --spool mcv.spool --server-timeout 1000 \\\n    < mcrouter.json\n",
     "\n  mcv listening 127.0.0.1:5000 pending 0\n",
     "\n  mcv closed calls 12\n",
     "\nExit status:\n  0  ended, or help was asked for\n  1  bad command line\n",
@@ -460,13 +517,15 @@ fn check_run(
         "3",
         "--proxies",
         "2",
+        "--server-timeout",
+        "200",
     ];
     check_said(rt, &words, config, expected, status);
 }
 
 #[test]
 fn a_run_serves_what_is_covered(rt: HostRuntime) {
-    check_run(&rt, "h:1", POOL, "h:1 f 3 2 of 1\n", 0);
+    check_run(&rt, "h:1", POOL, "h:1 f 3 2 200 of 1\n", 0);
     check_run(&rt, "h:1", WARM_UP, LOST, 3);
     check_run(&rt, "busy:1", WARM_UP, LOST, 3);
     check_run(&rt, "busy:1", "{", "mcv: configuration 1 at .", 2);

@@ -51,6 +51,19 @@ fn routes_and_faults_are_read(rt: HostRuntime) {
     }
 }
 
+/// What is read of a configuration with spaces behind it, of so many bytes together.
+fn check_length(rt: &(impl AllocGlobal + Abort), length: u64, wanted: &str) {
+    let spaces = length.saturating_sub(LONE.len() as u64);
+    let mut input = LONE.as_bytes().chain(io::repeat(b' ').take(spaces));
+    check_read(rt, &mut input, wanted);
+}
+
+#[test]
+fn a_configuration_may_have_16_mib_and_no_byte_more(rt: HostRuntime) {
+    check_length(&rt, 16_777_216, "a:11211");
+    check_length(&rt, 16_777_217, "configuration 7 at .");
+}
+
 #[test]
 fn a_configuration_without_end_is_too_long(rt: HostRuntime) {
     let mut input = LONE.as_bytes().chain(io::repeat(b' '));

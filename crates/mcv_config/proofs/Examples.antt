@@ -52,7 +52,7 @@ servers_of_a_pool = refl
 abbrev selecting : Data
 selecting =
     object (member (codes "default_policy") (string (codes "PoolRoute|A"))
-    (member (codes "operation_policies") (object (member (codes "delete") (string (codes "PoolRoute|B")) (member (codes "incr") (string (codes "NullRoute")) no_members)))
+    (member (codes "operation_policies") (object (member (codes "delete") (string (codes "PoolRoute|B")) (member (codes "lease-get") (string (codes "NullRoute")) no_members)))
     (member (codes "type") (string (codes "OperationSelectorRoute")) no_members)))
 
 -- the policies in byte order, and then the default

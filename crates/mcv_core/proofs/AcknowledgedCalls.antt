@@ -1,5 +1,5 @@
 -- Each call that was begun and answered is one of the world to which the moves lead, with that reply, and deletes among them are kept.
-use Rattle.std.proofs.Common.{◌≡◌, ◌⊎◌, cond, inl, inr, ℕ, zero, suc, Bool, true, false, List, [], ◌∷◌, ◌++◌, length, Option, Some, None, refl, sym, ap, ◌∙◌, subst, arith, length-append}
+use Rattle.std.proofs.Common.{◌≡◌, ◌⊎◌, cond, inl, inr, ℕ, zero, suc, Bool, true, false, List, [], ◌∷◌, ◌++◌, length, Option, Some, None, Ok, Err, refl, sym, ap, ◌∙◌, subst, arith, length-append}
 use Rattle.std.proofs.lemmas.Bool.{cases_eq}
 use Rattle.std.specs.Prelude.{option_and_then, slice_get}
 use Rattle.std.specs.Arc.{arc_value}
@@ -21,13 +21,15 @@ use Rattle.mcv_world.proofs.Numbers.{no_some, put_other, put_same, same_some}
 use Rattle.mcv_world.proofs.WhatIsThereStays.{replies_stay}
 use Rattle.mcv_events.specs.Rows.{world_of}
 use Rattle.mcv_core.specs.AcknowledgedCalls.{AnsweredCallsAreKept, WasAnswered, WasBegun, beginning_of, taking_of}
-use Rattle.mcv_core.specs.Asking.{HasBegunFor, IsAsked}
+use Rattle.mcv_core.specs.Answers.{done_answer, leg_answer, state_answer}
+use Rattle.mcv_core.specs.Asking.{IsAsked}
 use Rattle.mcv_core.specs.CoreView.{CoreView, Does, Moved}
-use Rattle.mcv_core.specs.Steps.{Step, Steps, refused, began, sent, replayed, answered, lost, spooled, spool_refused, marked, unmarked, clocked, turned, taken, awaited, none, more, with_move}
+use Rattle.mcv_core.specs.Events.{Begins}
+use Rattle.mcv_core.specs.Steps.{Step, Steps, begun, sent, replayed, answered, lost, spooled, refused, marked, unmarked, clocked, turned, taken, none, more, with_move}
+use Rattle.mcv_core.proofs.EventsLead.{Leads, begun_leads, clock_leads, goes, leg_leads, next_leads, replay_leads, stays, step_leads, take_leads, turn_leads}
 use Rattle.mcv_core.specs.declared.run.Answer.{Answer}
 use Rattle.mcv_core.specs.declared.run.Answer.TheVariants as answer
 use Rattle.mcv_core.specs.declared.run.Event.TheVariants as event
-use Rattle.mcv_core.specs.declared.fault.CoreFault.{CoreFault}
 use Rattle.std.specs.declared.alloc.Global.{Global}
 use Rattle.std.specs.declared.sync.Arc.{Arc}
 use Rattle.mcv_base.specs.declared.reply.Part.{Part}
@@ -201,42 +203,18 @@ module _ (r : RoutesValue) (chosen : SymbolValue → List ℕ → ℕ) where
   same_step o v u events answers e a h rows routes no_call no_reply =
       one_more o o v u events answers e a h h.is (h.live ∙ ap world_of (sym rows)) (routes ∙ h.routes) (λ k call g. g) (λ k x g. g) (λ k request key g. no_some (sym no_call ∙ g)) (λ k x g. no_some (sym no_reply ∙ g))
 
-  -- a refusal says neither a call's number nor a reply
-  refusal_begins : (e : Event) (fault : CoreFault) → beginning_of e (answer.Refused fault) ≡ None
-  refusal_begins (event.Begin request key) fault = refl
-  refusal_begins (event.Next server) fault = refl
-  refusal_begins (event.Answered leg reply) fault = refl
-  refusal_begins (event.Lost leg) fault = refl
-  refusal_begins (event.Spooled leg stored) fault = refl
-  refusal_begins (event.SpoolRefused leg) fault = refl
-  refusal_begins (event.Replay server) fault = refl
-  refusal_begins (event.Mark server) fault = refl
-  refusal_begins (event.Unmark server) fault = refl
-  refusal_begins (event.Clock moment) fault = refl
-  refusal_begins event.Turn fault = refl
-  refusal_begins (event.Take call) fault = refl
-
-  refusal_takes : (e : Event) (fault : CoreFault) → taking_of e (answer.Refused fault) ≡ None
-  refusal_takes (event.Begin request key) fault = refl
-  refusal_takes (event.Next server) fault = refl
-  refusal_takes (event.Answered leg reply) fault = refl
-  refusal_takes (event.Lost leg) fault = refl
-  refusal_takes (event.Spooled leg stored) fault = refl
-  refusal_takes (event.SpoolRefused leg) fault = refl
-  refusal_takes (event.Replay server) fault = refl
-  refusal_takes (event.Mark server) fault = refl
-  refusal_takes (event.Unmark server) fault = refl
-  refusal_takes (event.Clock moment) fault = refl
-  refusal_takes event.Turn fault = refl
-  refusal_takes (event.Take call) fault = refl
+  led_step : (o : World) (v u : CoreView) (m : Option Move) (events : List Event) (answers : List Answer) (e : Event) (a : Answer) → Holds o v events answers → Leads v u m → beginning_of e a ≡ None → taking_of e a ≡ None
+      → Holds (run r o (with_move [] m)) u (events ++ e ∷ []) (answers ++ a ∷ [])
+  led_step o v u m events answers e a h (stays rows routes) no_call no_reply = same_step o v u events answers e a h rows routes no_call no_reply
+  led_step o v u m events answers e a h (goes n d) no_call no_reply = other_step o v u n events answers e a h d no_call no_reply
 
   -- the call that began has the next number
-  begin_step : (o : World) (v u : CoreView) (events : List Event) (answers : List Answer) (request : Arc Request Global) (key : ℕ) (call : CallId) (b : HasBegunFor v chosen (arc_value request) key u) → Holds o v events answers
-      → call.0 ≡ v.rows.next_call → Holds (after r o (Began b.op b.route b.rest b.choice)) u (events ++ event.Begin request key ∷ []) (answers ++ answer.Call call ∷ [])
-  begin_step o v u events answers request key call b h number =
+  begin_step : (o : World) (v u : CoreView) (events : List Event) (answers : List Answer) (request : Arc Request Global) (key : ℕ) (call : CallId) (move : Option Move) (b : Begins v chosen (arc_value request) key call move u) → Holds o v events answers
+      → Holds (after r o (Began b.op b.route b.rest b.choice)) u (events ++ event.Begin request key ∷ []) (answers ++ answer.Call call ∷ [])
+  begin_step o v u events answers request key call move b h =
       let m = Began b.op b.route b.rest b.choice in
-      let n = after_move o v u m h.is h.live h.routes b.moves in
-      let next : call.0 ≡ o.next_call = number ∙ ap (λ z. z.next_call) (sym h.live) in
+      let n = after_move o v u m h.is h.live h.routes b.does in
+      let next : call.0 ≡ o.next_call = b.number ∙ ap (λ z. z.next_call) (sym h.live) in
       let c = new_call o b.op b.route b.rest b.choice in
       let there : put o.calls o.next_call (Some c) call.0 ≡ Some c = subst (λ i. put o.calls o.next_call (Some c) i ≡ Some c) (sym next) (put_same o.calls o.next_call (Some c)) in
       one_more o (after r o m) v u events answers (event.Begin request key) (answer.Call call) h n.is n.live n.routes (calls_stay r o m h.is) (replies_stay r o m h.is)
@@ -273,20 +251,23 @@ module _ (r : RoutesValue) (chosen : SymbolValue → List ℕ → ℕ) where
 
   step_holds : (o : World) (v u : CoreView) (events : List Event) (answers : List Answer) (e : Event) (a : Answer) (m : Option Move) → Holds o v events answers → Step chosen v e a m u
       → Holds (run r o (with_move [] m)) u (events ++ e ∷ []) (answers ++ a ∷ [])
-  step_holds o v u events answers e a m h (refused x fault z same) = same_step o v u events answers e a h (ap (λ q. q.rows) same) (ap (λ q. q.routes) same) (refusal_begins e fault) (refusal_takes e fault)
-  step_holds o v u events answers e a m h (began request key call z b number) = begin_step o v u events answers request key call b h number
-  step_holds o v u events answers e a m h (sent server leg z d) = other_step o v u None events answers e a h d refl refl
-  step_holds o v u events answers e a m h (replayed server leg z d) = other_step o v u None events answers e a h d refl refl
-  step_holds o v u events answers e a m h (answered leg reply step z d) = other_step o v u m events answers e a h d refl refl
-  step_holds o v u events answers e a m h (lost leg step z d) = other_step o v u m events answers e a h d refl refl
-  step_holds o v u events answers e a m h (spooled leg stored step z d) = other_step o v u m events answers e a h d refl refl
-  step_holds o v u events answers e a m h (spool_refused leg step z d) = other_step o v u m events answers e a h d refl refl
-  step_holds o v u events answers e a m h (marked server z is) = same_step o v u events answers e a h (ap (λ q. q.rows) is) (ap (λ q. q.routes) is) refl refl
-  step_holds o v u events answers e a m h (unmarked server z is) = same_step o v u events answers e a h (ap (λ q. q.rows) is) (ap (λ q. q.routes) is) refl refl
-  step_holds o v u events answers e a m h (clocked moment era z d) = other_step o v u m events answers e a h d refl refl
-  step_holds o v u events answers e a m h (turned z d) = other_step o v u None events answers e a h d refl refl
-  step_holds o v u events answers e a m h (taken call part z moves reply) = take_step o v u events answers call part h moves reply
-  step_holds o v u events answers e a m h (awaited call z same waits) = same_step o v u events answers e a h (ap (λ q. q.rows) same) (ap (λ q. q.routes) same) refl refl
+  step_holds o v u events answers e a m h (begun request key (Ok call) n z b) =
+      subst (λ k. Holds (run r o (with_move [] k)) z (events ++ event.Begin request key ∷ []) (answers ++ answer.Call call ∷ [])) (sym b.move) (begin_step o v z events answers request key call n b h)
+  step_holds o v u events answers e a m h (begun request key (Err fault) n z b) = led_step o v z n events answers (event.Begin request key) (answer.Refused fault) h (begun_leads v chosen (arc_value request) key (Err fault) n z b) refl refl
+  step_holds o v u events answers e a m h (sent server x n z d) = led_step o v z n events answers (event.Next server) (leg_answer x) h (next_leads v server x n z d) refl refl
+  step_holds o v u events answers e a m h (replayed server x n z d) = led_step o v z n events answers (event.Replay server) (leg_answer x) h (replay_leads v server x n z d) refl refl
+  step_holds o v u events answers e a m h (answered leg reply x n z d) = led_step o v z n events answers (event.Answered leg reply) (state_answer x) h (leg_leads _ leg _ v x n z d) refl refl
+  step_holds o v u events answers e a m h (lost leg x n z d) = led_step o v z n events answers (event.Lost leg) (state_answer x) h (leg_leads _ leg _ v x n z d) refl refl
+  step_holds o v u events answers e a m h (spooled leg stored x n z d) = led_step o v z n events answers (event.Spooled leg stored) (state_answer x) h (leg_leads _ leg _ v x n z d) refl refl
+  step_holds o v u events answers e a m h (refused leg x n z d) = led_step o v z n events answers (event.SpoolRefused leg) (state_answer x) h (leg_leads _ leg _ v x n z d) refl refl
+  step_holds o v u events answers e a m h (marked server n z d) = led_step o v z n events answers (event.Mark server) answer.Done h (step_leads chosen v z (event.Mark server) answer.Done n (marked server n z d)) refl refl
+  step_holds o v u events answers e a m h (unmarked server n z d) = led_step o v z n events answers (event.Unmark server) answer.Done h (step_leads chosen v z (event.Unmark server) answer.Done n (unmarked server n z d)) refl refl
+  step_holds o v u events answers e a m h (clocked moment x n z d) = led_step o v z n events answers (event.Clock moment) (done_answer x) h (clock_leads v moment x n z d) refl refl
+  step_holds o v u events answers e a m h (turned x n z d) = led_step o v z n events answers event.Turn (done_answer x) h (turn_leads v x n z d) refl refl
+  step_holds o v u events answers e a m h (taken call (Ok (Some part)) n z d) =
+      subst (λ k. Holds (run r o (with_move [] k)) z (events ++ event.Take call ∷ []) (answers ++ answer.Reply (Some part) ∷ [])) (sym d.move) (take_step o v z events answers call part h d.does d.reply)
+  step_holds o v u events answers e a m h (taken call (Ok None) n z d) = led_step o v z n events answers (event.Take call) (answer.Reply None) h (take_leads v call (Ok None) n z d) refl refl
+  step_holds o v u events answers e a m h (taken call (Err fault) n z d) = led_step o v z n events answers (event.Take call) (answer.Refused fault) h (take_leads v call (Err fault) n z d) refl refl
 
   -- ---- all steps
 
@@ -315,9 +296,9 @@ module _ (r : RoutesValue) (chosen : SymbolValue → List ℕ → ℕ) where
 
   pub answered_calls_are_kept : (start u : CoreView) (o : World) (events : List Event) (answers : List Answer) (ms : List Move) → AreCovered r → IsWorld r o → live_of r o ≡ world_of start.rows → start.routes ≡ r → Steps chosen start events answers ms u
       → AnsweredCallsAreKept r chosen events answers (run r o ms)
-  answered_calls_are_kept start u o events answers ms covered is live routes steps k request key x begun took =
+  answered_calls_are_kept start u o events answers ms covered is live routes steps k request key x began took =
       let h = steps_hold start u o events answers ms (opened_holds start o is live routes) steps in
-      let b = h.begun k request key begun in
+      let b = h.begun k request key began in
       let t = h.took k x took in
       let same : t.call ≡ b.call = same_some (sym t.is ∙ b.there) in
       let reply : reply_of r b.call ≡ Some x = ap (reply_of r) (sym same) ∙ t.reply in

@@ -11,7 +11,6 @@ use Rattle.mcv_plan.specs.declared.state.EvalState.{EvalState}
 use Rattle.mcv_core.specs.declared.begin.Asked.{Asked}
 use Rattle.mcv_core.specs.declared.fault.CoreFault.{CoreFault}
 use Rattle.mcv_core.specs.declared.fault.CoreFault.TheVariants.{LegsFull, ChapterFull}
-use Rattle.mcv_plan.specs.Laws as plans
 use Rattle.mcv_route.specs.Tree.{Tree}
 use Rattle.std.proofs.lemmas.Option.{get_or_from_slice_get, slice_get_within}
 use Rattle.mcv_base.specs.declared.operation.Op.{Op}
@@ -52,7 +51,8 @@ use Rattle.mcv_core.specs.declared.counts.Counts.{Counts}
 use Rattle.mcv_core.specs.declared.dispatcher.Dispatcher.{Dispatcher}
 use Rattle.mcv_core.specs.declared.errand.Errand.{Errand}
 use Rattle.mcv_core.specs.declared.launch.Entry.{Entry}
-use Rattle.mcv_core.specs.Beginning.{CanAdd, CanStart, HasBegun, HasLegRoom, HasRoom, IsErrandOf, IsFull, IsNewCall, LegsFit, began_by, has_begun}
+use Rattle.mcv_core.specs.Beginning.{CanAdd, CanStart, HasBegun, HasLegRoom, HasRoom, HistoryFits, IsErrandOf, IsNewCall, IsUnstarted, LegsFit, asked_call, began_by, has_begun, reservation}
+use Rattle.mcv_core.specs.PlannedLegs.{legs_of_call, planned_legs}
 use Rattle.mcv_core.specs.Calls.{calls_at, room as call_room}
 use Rattle.mcv_core.specs.CoreView.{CoreView, Moved}
 use Rattle.mcv_core.specs.Errands.{errand_view, launch_of}
@@ -365,13 +365,13 @@ sound_roomier d calls2 q2 calls_are legs_are wide known =
 
 -- ---- why a call doesn't begin
 
-pub laid_for : (d : Dispatcher) (asks : Asked) (state : EvalState) (launches : List Launch) (tree : Tree) → option_map (λ t. t) (Some tree) ≡ option_map (λ e. e.tree) (slice_get (arc_value d.accepted).entries asks.route)
-    → HasOpened tree (asked asks.op (arc_value asks.rest) (option_map (λ m. m.0) d.since)) (slice_index asks.choice) launches state
-    → IsLaidOut (arc_value d.accepted) (new_call (world_of (core_view d).rows) asks.op asks.route (arc_value asks.rest) asks.choice) launches
-laid_for d asks state launches tree at opened =
+-- what is laid out in memory is what the call can launch
+pub planned_for : (d : Dispatcher) (asks : Asked) (state : EvalState) (launches : List Launch) (tree : Tree) → option_map (λ t. t) (Some tree) ≡ option_map (λ e. e.tree) (slice_get (arc_value d.accepted).entries asks.route)
+    → HasOpened tree (asked asks.op (arc_value asks.rest) (option_map (λ m. m.0) d.since)) (slice_index asks.choice) launches state → launches ≡ legs_of_call (arc_value d.accepted) (asked_call (core_view d) asks)
+unfolding legs_of_call
+planned_for d asks state launches tree at opened =
     let same : tree_of (arc_value d.accepted) asks.route ≡ tree = ap (λ o. unwrap_or o error) (sym at) in
-    let laid2 = subst (λ t. plans.IsLaidOut t (asked asks.op (arc_value asks.rest) (option_map (λ m. m.0) d.since)) (slice_index asks.choice) launches) (sym same) opened.laid in
-    record { all = laid2.all; rising = laid2.rising }
+    opened.planned ∙ ap (λ t. planned_legs t (asked asks.op (arc_value asks.rest) (option_map (λ m. m.0) d.since)) (slice_index asks.choice)) (sym same)
 
 -- the counts say what fits
 pub leg_room : (d : Dispatcher) (count : ℕ) → LegsFit (core_view d) count → HasLegRoom d count
@@ -390,16 +390,19 @@ legs_have_room d count fit =
     let b = fit.leg_numbers in
     record { limit = omega (arith, a, queued, reserved); calls = fit.call_numbers; legs = omega (arith, b, reserved) }
 
-pub refused_as : (d : Dispatcher) (asks : Asked) (launches : List Launch) (fault : CoreFault) → IsLaidOut (arc_value d.accepted) (new_call (world_of (core_view d).rows) asks.op asks.route (arc_value asks.rest) asks.choice) launches
-    → (fault ≡ LegsFull) ⊎ (fault ≡ ChapterFull) → (fault ≡ LegsFull → HasLegRoom d (length launches) → ⊥) → (fault ≡ ChapterFull → HasLegRoom d (length launches) × (1000000 < d.entries + (2 + 3 * length launches)))
-    → IsFull (core_view d) asks fault
-refused_as d asks launches fault laid_out either many unrecorded =
+no_history : (entries count other : ℕ) → count ≡ other → 1000000 < entries + (2 + 3 * count) → entries + (2 + 3 * other) ≤ 1000000 → ⊥
+no_history entries count other same over fit = omega (arith, same, over, fit)
+
+pub unstarted_as : (d : Dispatcher) (asks : Asked) (launches : List Launch) (fault : CoreFault) → launches ≡ legs_of_call (arc_value d.accepted) (asked_call (core_view d) asks) → (fault ≡ LegsFull) ⊎ (fault ≡ ChapterFull)
+    → (fault ≡ LegsFull → HasLegRoom d (length launches) → ⊥) → (fault ≡ ChapterFull → HasLegRoom d (length launches) × (1000000 < d.entries + (2 + 3 * length launches))) → IsUnstarted (core_view d) asks fault
+unstarted_as d asks launches fault planned either many unrecorded =
+    let count : length launches ≡ reservation (core_view d) (asked_call (core_view d) asks) = ap length planned in
     elim either [
-      | inl full ↦ subst (IsFull (core_view d) asks) (sym full) (record { entries = launches; laid = laid_out; full = λ fit. many full (leg_room d (length launches) fit) })
+      | inl full ↦ subst (IsUnstarted (core_view d) asks) (sym full) (λ fit. many full (leg_room d (length launches) (subst (LegsFit (core_view d)) (sym count) fit)))
       | inr full ↦
           let f = unrecorded full in
-          let over = f.1 in
-          subst (IsFull (core_view d) asks) (sym full) (record { entries = launches; laid = laid_out; full = (legs_have_room d (length launches) f.0, λ fit. omega (arith, over, fit)) })
+          subst (IsUnstarted (core_view d) asks) (sym full)
+          (subst (LegsFit (core_view d)) count (legs_have_room d (length launches) f.0), λ fit. no_history d.entries (length launches) (reservation (core_view d) (asked_call (core_view d) asks)) count f.1 fit)
     ]
 
 pub entry_of : (o : Option RouteEntry) (t : Tree) → Some t ≡ option_map (λ e. e.tree) o → (e : RouteEntry) × (o ≡ Some e) × (t ≡ e.tree)
@@ -431,8 +434,8 @@ same_room d d2 count counts call leg entries h =
 
 -- ---- what contracts see of a call that began
 
-pub laid_start : (d : Dispatcher) (asks : Asked) (state : EvalState) (launches : List Launch) → CanStart d asks state launches → IsLaidOut (arc_value d.accepted) (new_call (world_of (core_view d).rows) asks.op asks.route (arc_value asks.rest) asks.choice) launches
-laid_start d asks state launches can = laid_for d asks state launches can.entry.tree (sym (ap (option_map (λ e. e.tree)) can.there)) can.opened
+pub planned_start : (d : Dispatcher) (asks : Asked) (state : EvalState) (launches : List Launch) → CanStart d asks state launches → launches ≡ legs_of_call (arc_value d.accepted) (asked_call (core_view d) asks)
+planned_start d asks state launches can = planned_for d asks state launches can.entry.tree (sym (ap (option_map (λ e. e.tree)) can.there)) can.opened
 
 pub moved_as : (d d2 : Dispatcher) (asks : Asked) (state : EvalState) (launches : List Launch) (c : Call) (new : CoreView) (number : ℕ) (since : Option Moment) → core_view d2 ≡ core_view d → IsNewCall number since asks state launches c
     → Moved (core_view d2) new (began_by c) → Moved (core_view d) new (Began asks.op asks.route (arc_value asks.rest) asks.choice)
@@ -441,20 +444,20 @@ moved_as d d2 asks state launches c new number since same made h =
     (subst (λ m. Moved (core_view d2) new m) (λ j. Began (made.op j) (made.route j) (made.rest j) (made.choice j)) h)
 
 pub has_begun_as : (d d2 : Dispatcher) (asks : Asked) (state : EvalState) (launches : List Launch) (c : Call) (new : CoreView) (number : ℕ) (since : Option Moment) → core_view d2 ≡ core_view d → IsNewCall number since asks state launches c
-    → new ≡ has_begun (core_view d2) c → IsLaidOut (arc_value d.accepted) (new_call (world_of (core_view d).rows) asks.op asks.route (arc_value asks.rest) asks.choice) launches → HasRoom d (length launches)
-    → HasBegun (core_view d) new asks.op asks.route (arc_value asks.rest) asks.choice
-has_begun_as d d2 asks state launches c new number since same made is laid_out fits = record {
-  entries = launches;
-  laid = laid_out;
-  legs_fit = legs_have_room d (length launches) fits.legs;
-  history_fits = fits.entries;
-  view =
-      is ∙ ap (λ v. has_begun v c) same
-      ∙ (λ j. record (core_view d) {
-        rows = began_rows (arc_value d.accepted) (core_view d).rows (new_call (world_of (core_view d).rows) (made.op j) (made.route j) (made.rest j) (made.choice j)) (made.entries j);
-        entries = d.entries + (2 + 3 * length (made.entries j));
-      });
-}
+    → new ≡ has_begun (core_view d2) c → launches ≡ legs_of_call (arc_value d.accepted) (asked_call (core_view d) asks) → HasRoom d (length launches) → HasBegun (core_view d) new (asked_call (core_view d) asks)
+has_begun_as d d2 asks state launches c new number since same made is planned fits =
+    let count : length launches ≡ reservation (core_view d) (asked_call (core_view d) asks) = ap length planned in
+    record {
+      legs_fit = subst (LegsFit (core_view d)) count (legs_have_room d (length launches) fits.legs);
+      history_fits = subst (HistoryFits (core_view d)) count fits.entries;
+      view =
+          is ∙ ap (λ v. has_begun v c) same
+          ∙ (λ j. record (core_view d) {
+            rows = began_rows (arc_value d.accepted) (core_view d).rows (new_call (world_of (core_view d).rows) (made.op j) (made.route j) (made.rest j) (made.choice j)) (made.entries j);
+            entries = d.entries + (2 + 3 * length (made.entries j));
+          })
+          ∙ ap (λ es. record (core_view d) { rows = began_rows (arc_value d.accepted) (core_view d).rows (asked_call (core_view d) asks) es; entries = d.entries + (2 + 3 * length es) }) planned;
+    }
 
 -- ---- a call that is made can be added
 

@@ -45,11 +45,11 @@ module _ (v : CoreView) (n : ℕ) (s : LegRow) where
   loss_stays rows.Held = tt
   loss_stays rows.InSpool = by_test v (flies v n s) _ _ (replayed lost_mark true) tt
 
-  spooling_stays : (its : Bool) (t : rows.State) → StaysIn v (spooling_in v n its s t)
-  spooling_stays its rows.Waiting = tt
-  spooling_stays its rows.Sent = tt
-  spooling_stays its rows.Held = by_test v its (stores v n s) _ refl tt
-  spooling_stays its rows.InSpool = tt
+  spooling_stays : (seq : ℕ) (its : Bool) (t : rows.State) → StaysIn v (spooling_in v n seq its s t)
+  spooling_stays seq its rows.Waiting = tt
+  spooling_stays seq its rows.Sent = tt
+  spooling_stays seq its rows.Held = by_test v its (stores v n seq s) _ refl tt
+  spooling_stays seq its rows.InSpool = tt
 
   refusing_stays : (t : rows.State) → StaysIn v (refusing_in v n s t)
   refusing_stays rows.Waiting = tt
@@ -68,9 +68,9 @@ module _ (v w : CoreView) (n : ℕ) (r : Result Step CoreFault) where
   pub loss_chapter : HasEffect (loss_at v n) v w r → w.chapter ≡ v.chapter
   loss_chapter h = by_effect v w (loss_at v n) r (at_row_stays v (λ s. loss_in v n s s.state) (λ s. loss_stays v n s s.state) (v.rows.legs n)) h
 
-  pub spooling_chapter : (text rest : List ℕ) → HasEffect (spooling_at v n text rest) v w r → w.chapter ≡ v.chapter
-  spooling_chapter text rest h =
-      by_effect v w (spooling_at v n text rest) r (at_row_stays v (λ s. spooling_in v n (is_record v n text rest s) s s.state) (λ s. spooling_stays v n s (is_record v n text rest s) s.state) (v.rows.legs n)) h
+  pub spooling_chapter : (seq : ℕ) (text rest : List ℕ) → HasEffect (spooling_at v n seq text rest) v w r → w.chapter ≡ v.chapter
+  spooling_chapter seq text rest h =
+      by_effect v w (spooling_at v n seq text rest) r (at_row_stays v (λ s. spooling_in v n seq (is_record v n text rest s) s s.state) (λ s. spooling_stays v n s seq (is_record v n text rest s) s.state) (v.rows.legs n)) h
 
   pub refusing_chapter : HasEffect (refusing_at v n) v w r → w.chapter ≡ v.chapter
   refusing_chapter h = by_effect v w (refusing_at v n) r (at_row_stays v (λ s. refusing_in v n s s.state) (λ s. refusing_stays v n s s.state) (v.rows.legs n)) h

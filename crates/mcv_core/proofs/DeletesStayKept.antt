@@ -1,6 +1,6 @@
 -- Deletes are kept after every list of events.
-use Rattle.std.proofs.Common.{◌≡◌, ℕ, List, [], ◌∷◌, ◌++◌, Option, Some, None, Result, Ok, Err, refl, sym, ap, ◌∙◌, subst}
-use Rattle.std.specs.Prelude.{IfOk, OnOk, slice_get}
+use Rattle.std.proofs.Common.{◌≡◌, ℕ, List, [], ◌∷◌, ◌++◌, Option, Some, None, refl, sym, ap, ◌∙◌, subst}
+use Rattle.std.specs.Prelude.{slice_get}
 use Rattle.mcv_pools.specs.Symbol.{SymbolValue}
 use Rattle.mcv_route.specs.Eras.{breaks_of, since_at}
 use Rattle.mcv_route.specs.Routes.{RoutesValue}
@@ -20,9 +20,8 @@ use Rattle.mcv_core.proofs.AcknowledgedCalls.{answered_calls_are_kept}
 use Rattle.mcv_core.specs.CoreView.{CoreView, Does, Moved}
 use Rattle.mcv_core.specs.Opening.{known_records, opened_view}
 use Rattle.mcv_core.specs.KeptDeletes.{DeletesStayKept, EventsKeepDeletes, KeepsDeletes, OpenedCoresKeepDeletes}
-use Rattle.mcv_core.specs.Steps.{AreAnswered, DeletesAreKept, IsAnswered, Step, Steps, with_move}
-use Rattle.mcv_core.specs.Steps.{refused, began, sent, replayed, answered, lost, spooled, spool_refused, marked, unmarked, clocked, turned, taken, awaited, none, more}
-use Rattle.mcv_core.specs.declared.fault.CoreFault.{CoreFault}
+use Rattle.mcv_core.specs.Steps.{AreAnswered, DeletesAreKept, IsAnswered, Step, Steps, with_move, none, more}
+use Rattle.mcv_core.proofs.EventsLead.{Leads, goes, stays, step_leads}
 use Rattle.mcv_core.specs.declared.run.Answer.{Answer}
 use Rattle.mcv_core.specs.declared.run.Event.{Event}
 use Rattle.mcv_world.proofs.ForgetsSafely.{forgets_safely, moves_are_live}
@@ -56,37 +55,18 @@ pub events_keep_deletes : EventsKeepDeletes
 events_keep_deletes v w None h = λ world k. keeps_at v.routes w world h.routes k.covered k.is (k.live ∙ sym h.world) k.kept
 events_keep_deletes v w (Some m) h = λ world k. moved_keeps v w m world k h
 
-pub moved_keep : {A : Type 0} (r : Result A CoreFault) (v w : CoreView) (m : Move) → IfOk r (λ a. Moved v w m) → OnOk r (DeletesStayKept v w (Some m))
-moved_keep (Ok a) v w m h = events_keep_deletes v w (Some m) h
-moved_keep (Err e) v w m h = tt
-
 -- an event that changes no row
-pub same_rows_keep : (v w : CoreView) → w.rows ≡ v.rows → w.routes ≡ v.routes → DeletesStayKept v w None
+same_rows_keep : (v w : CoreView) → w.rows ≡ v.rows → w.routes ≡ v.routes → DeletesStayKept v w None
 same_rows_keep v w rows routes = λ world k. keeps_at v.routes w world routes k.covered k.is (k.live ∙ ap world_of (sym rows)) k.kept
 
-pub same_view_keeps : (v w : CoreView) → w ≡ v → DeletesStayKept v w None
-same_view_keeps v w same = same_rows_keep v w (ap (λ z. z.rows) same) (ap (λ z. z.routes) same)
+pub leading_keeps : (v w : CoreView) (m : Option Move) → Leads v w m → DeletesStayKept v w m
+leading_keeps v w m (stays rows routes) = same_rows_keep v w rows routes
+leading_keeps v w m (goes n d) = events_keep_deletes v w n d
 
 module _ (chosen : SymbolValue → List ℕ → ℕ) where
-  pub step_keeps : (v w : CoreView) (e : Event) (a : Answer) (m : Option Move) → Step chosen v e a m w → DeletesStayKept v w m
-  step_keeps v w e a m (refused x fault u same) = same_view_keeps v w same
-  step_keeps v w e a m (began request key call u b number) = events_keep_deletes v w m b.moves
-  step_keeps v w e a m (sent server leg u h) = events_keep_deletes v w m h
-  step_keeps v w e a m (replayed server leg u h) = events_keep_deletes v w m h
-  step_keeps v w e a m (answered leg reply step u h) = events_keep_deletes v w m h
-  step_keeps v w e a m (lost leg step u h) = events_keep_deletes v w m h
-  step_keeps v w e a m (spooled leg stored step u h) = events_keep_deletes v w m h
-  step_keeps v w e a m (spool_refused leg step u h) = events_keep_deletes v w m h
-  step_keeps v w e a m (marked server u is) = same_rows_keep v w (ap (λ z. z.rows) is) (ap (λ z. z.routes) is)
-  step_keeps v w e a m (unmarked server u is) = same_rows_keep v w (ap (λ z. z.rows) is) (ap (λ z. z.routes) is)
-  step_keeps v w e a m (clocked moment era u h) = events_keep_deletes v w m h
-  step_keeps v w e a m (turned u h) = events_keep_deletes v w m h
-  step_keeps v w e a m (taken call part u h reply) = events_keep_deletes v w m h
-  step_keeps v w e a m (awaited call u same waits) = same_view_keeps v w same
-
   -- the event is answered by this step
   pub answered_by : (v w : CoreView) (e : Event) (a : Answer) (m : Option Move) → Step chosen v e a m w → IsAnswered chosen v e a w
-  answered_by v w e a m step = record { move = m; step = step; keeps = step_keeps v w e a m step }
+  answered_by v w e a m step = record { move = m; step = step; keeps = leading_keeps v w m (step_leads chosen v w e a m step) }
 
 spooled_is : (o : Option OpenedRecord) (s : LegRow) → option_map spooled_row o ≡ Some s → s.state ≡ InSpool
 spooled_is None s e = no_some e
@@ -125,26 +105,11 @@ does_run : (v w : CoreView) (m : Option Move) → Does v w m → RunsTo v w m
 does_run v w None h = record { routes = h.routes; runs = no_move v.rows w.rows w.rows [] h.world (done w.rows) }
 does_run v w (Some m) h = record { routes = h.routes; runs = moved v.rows w.rows w.rows m [] h.allowed h.moves (done w.rows) }
 
-same_run : (v w : CoreView) → w.rows ≡ v.rows → w.routes ≡ v.routes → RunsTo v w None
-same_run v w rows routes = record { routes = routes; runs = no_move v.rows w.rows w.rows [] (ap world_of rows) (done w.rows) }
+leading_runs : (v w : CoreView) (m : Option Move) → Leads v w m → RunsTo v w m
+leading_runs v w m (stays rows routes) = record { routes = routes; runs = no_move v.rows w.rows w.rows [] (ap world_of rows) (done w.rows) }
+leading_runs v w m (goes n d) = does_run v w n d
 
 module _ (chosen : SymbolValue → List ℕ → ℕ) where
-  step_runs : (v w : CoreView) (e : Event) (a : Answer) (m : Option Move) → Step chosen v e a m w → RunsTo v w m
-  step_runs v w e a m (refused x fault u same) = same_run v w (ap (λ z. z.rows) same) (ap (λ z. z.routes) same)
-  step_runs v w e a m (began request key call u b number) = does_run v w m b.moves
-  step_runs v w e a m (sent server leg u h) = does_run v w m h
-  step_runs v w e a m (replayed server leg u h) = does_run v w m h
-  step_runs v w e a m (answered leg reply step u h) = does_run v w m h
-  step_runs v w e a m (lost leg step u h) = does_run v w m h
-  step_runs v w e a m (spooled leg stored step u h) = does_run v w m h
-  step_runs v w e a m (spool_refused leg step u h) = does_run v w m h
-  step_runs v w e a m (marked server u is) = same_run v w (ap (λ z. z.rows) is) (ap (λ z. z.routes) is)
-  step_runs v w e a m (unmarked server u is) = same_run v w (ap (λ z. z.rows) is) (ap (λ z. z.routes) is)
-  step_runs v w e a m (clocked moment era u h) = does_run v w m h
-  step_runs v w e a m (turned u h) = does_run v w m h
-  step_runs v w e a m (taken call part u h reply) = does_run v w m h
-  step_runs v w e a m (awaited call u same waits) = same_run v w (ap (λ z. z.rows) same) (ap (λ z. z.routes) same)
-
   record RunTo (start w : CoreView) (ms : List Move) : Type 0 where
     pub routes : w.routes ≡ start.routes
     pub runs : Runs start.routes start.rows ms w.rows
@@ -153,7 +118,7 @@ module _ (chosen : SymbolValue → List ℕ → ℕ) where
   steps_run start w events answers ms none = record { routes = refl; runs = done start.rows }
   steps_run start w events answers ms (more es xs ns v e a m z before step) =
       let h = steps_run start v es xs ns before in
-      let s = step_runs v w e a m step in
+      let s = leading_runs v w m (step_leads chosen v w e a m step) in
       record {
         routes = s.routes ∙ h.routes;
         runs = subst (λ k. Runs start.routes start.rows k w.rows) (add_move ns m) (runs_append start.routes start.rows v.rows w.rows ns (with_move [] m) h.runs (subst (λ r. Runs r v.rows (with_move [] m) w.rows) h.routes s.runs));

@@ -16,12 +16,12 @@ use Rattle.mcv_route.specs.Eras.{IsEra, breaks_of, since_at}
 use Rattle.mcv_route.specs.Routes.{RoutesValue}
 use Rattle.mcv_world.specs.Moves.{EraBegan}
 use Rattle.mcv_world.proofs.Choices.{moments_have_eras}
-use Rattle.mcv_world.proofs.Numbers.{no_some}
+use Rattle.mcv_world.proofs.Numbers.{no_some, other_era, same_some}
 use Rattle.mcv_events.specs.Rows as rows
 use Rattle.mcv_events.specs.Rows.{CallRow, IsCore, LegRow, Rows, world_of}
 use Rattle.mcv_events.specs.QueuedLegs.{count_in, count_of}
 use Rattle.mcv_events.specs.Sums.{sum_below}
-use Rattle.mcv_events.proofs.EventsAreMoves.{era_moves}
+use Rattle.mcv_events.proofs.EventsAreMoves.{era_keeps_core, era_moves}
 use Rattle.mcv_events.proofs.CoresKeepDeletes.{spooled_rows_open}
 use Rattle.mcv_core.specs.declared.call.Call.{Call}
 use Rattle.mcv_core.specs.declared.dispatcher.Dispatcher.{Dispatcher}
@@ -32,6 +32,7 @@ use Rattle.mcv_core.specs.CoreView.{Does, IsQuiet}
 use Rattle.mcv_core.specs.Rows.{awaiting_rows, call_rows, row_by, rows_of, state_of}
 use Rattle.mcv_core.specs.Soundness.{one, IsSound}
 use Rattle.mcv_core.specs.Chapters.{IsAtRest, era_move, in_era}
+use Rattle.mcv_core.specs.Events.{IsNewEra}
 use Rattle.mcv_core.specs.View.{core_view}
 
 -- ---- the clock
@@ -40,8 +41,8 @@ pub sound_in_era : (r : RoutesValue) (calls : ℕ → Option Call) (legs2 : ℕ 
     → IsSound r calls legs2 since moment next_call next_leg reserved queued spooled running room2 servers2 → (since2 : Option ℕ) (moment2 : ℕ) → since2 ≡ since_at (breaks_of r) moment2
     → IsSound r calls legs2 since2 moment2 next_call next_leg reserved queued spooled running room2 servers2
 sound_in_era r calls legs2 since moment next_call next_leg reserved queued spooled running room2 servers2 i since2 moment2 is = record {
-  core = (era_moves r (rows_of calls legs2 since next_call next_leg) since2 i.core).core;
-  awaiting = (era_moves r (awaiting_rows calls legs2 since next_call next_leg) since2 i.awaiting).core;
+  core = era_keeps_core r (rows_of calls legs2 since next_call next_leg) since2 i.core;
+  awaiting = era_keeps_core r (awaiting_rows calls legs2 since next_call next_leg) since2 i.awaiting;
   refused = i.refused;
   calls_run = i.calls_run;
   addressed = i.addressed;
@@ -56,21 +57,32 @@ sound_in_era r calls legs2 since moment next_call next_leg reserved queued spool
   era = is;
 }
 
+same_moment : (a b : Option Moment) → option_map (λ m. m.0) a ≡ option_map (λ m. m.0) b → a ≡ b
+same_moment None None e = refl
+same_moment None (Some b) e = no_some e
+same_moment (Some a) None e = no_some (sym e)
+same_moment (Some a) (Some b) e = λ j. Some (record { 0 = same_some e j })
+
 -- the era's move, or none where the era is the same
 pub era_does : (d : Dispatcher) (since : Option Moment) (moment : ℕ) → option_map (λ m. m.0) since ≡ since_at (breaks_of (arc_value d.accepted)) moment → (era : Option Era) → IfSome era (λ e. e.since ≡ since)
-    → (era ≡ None → since ≡ d.since) → Does (core_view d) (record (in_era (core_view d) (option_map (λ m. m.0) since)) { moment = moment }) (era_move era)
-era_does d since moment is None changed same = record {
+    → IfSome era (λ e. since ≡ d.since → ⊥) → (era ≡ None → since ≡ d.since) → Does (core_view d) (record (in_era (core_view d) (option_map (λ m. m.0) since)) { moment = moment }) (era_move era)
+era_does d since moment is None changed other same = record {
   world = λ j. record (world_of (core_view d).rows) { since = ap (option_map (λ (m : Moment). m.0)) (same refl) j };
-  core = (era_moves (arc_value d.accepted) (core_view d).rows (option_map (λ m. m.0) since) d.sound.core).core;
+  core = era_keeps_core (arc_value d.accepted) (core_view d).rows (option_map (λ m. m.0) since) d.sound.core;
   routes = refl;
 }
-era_does d since moment is (Some era) changed same =
+era_does d since moment is (Some era) changed other same =
     subst (λ v. Does (core_view d) (record (in_era (core_view d) (option_map (λ m. m.0) since)) { moment = moment }) (Some (EraBegan (option_map (λ (m : Moment). m.0) v)))) (sym changed)
     (record {
       allowed = subst (IsEra (arc_value d.accepted)) (sym is) (moments_have_eras (arc_value d.accepted) moment);
-      moves = era_moves (arc_value d.accepted) (core_view d).rows (option_map (λ m. m.0) since) d.sound.core;
+      moves = era_moves (arc_value d.accepted) (core_view d).rows (option_map (λ m. m.0) since) d.sound.core (other_era (option_map (λ (m : Moment). m.0) d.since) (option_map (λ (m : Moment). m.0) since) (λ e. other (same_moment since d.since e)));
       routes = refl;
     })
+
+-- the era that is answered is another one than before
+pub new_era : (old since : Option Moment) (era : Option Era) → IfSome era (λ e. e.since ≡ since) → IfSome era (λ e. since ≡ old → ⊥) → (era ≡ None → since ≡ old) → IsNewEra (option_map (λ m. m.0) old) (option_map (λ m. m.0) since) era
+new_era old since None changed other same = ap (option_map (λ (m : Moment). m.0)) (same refl)
+new_era old since (Some era) changed other same = (ap (option_map (λ (m : Moment). m.0)) changed, λ e. other (same_moment since old e))
 
 -- ---- sums that are 0
 

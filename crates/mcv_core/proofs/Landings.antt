@@ -1,5 +1,5 @@
 -- Legs in flight that are answered or lost, and held legs that the spool stores or refuses.
-use Rattle.std.proofs.Common.{◌≡◌, cond, ℕ, Bool, true, false, length, List, Option, Some, None, Ok, Err, option_map, refl, sym, ap, ◌∙◌, subst, true≢false}
+use Rattle.std.proofs.Common.{◌≡◌, ◌⊎◌, inl, inr, cond, ℕ, Bool, true, false, length, List, Option, Some, None, Ok, Err, option_map, refl, sym, ap, ◌∙◌, subst, true≢false}
 use Rattle.std.specs.Arc.{arc_value}
 use Rattle.std.proofs.Math.Path.{fun_ext}
 use Rattle.mcv_base.specs.declared.reply.FixedReply.TheVariants.{Lost}
@@ -13,7 +13,7 @@ use Rattle.mcv_queues.specs.Legs.{IsSentTo, is_flight, is_in_flight, with_stored
 use Rattle.mcv_queues.specs.Marks.{answered_mark, lost_mark, marks, put_mark, servers as marked_servers}
 use Rattle.mcv_queues.specs.declared.queues.Queues.{Queues}
 use Rattle.mcv_queues.specs.Queues.{in_flight, legs}
-use Rattle.mcv_world.specs.World.{is_counted_delete}
+use Rattle.mcv_world.specs.World.{is_counted_delete, put}
 use Rattle.mcv_world.specs.Moves.{counted_as, has_no_outcome, is_error_reply, is_one}
 use Rattle.mcv_world.proofs.Numbers.{no_some, same_some}
 use Rattle.mcv_events.specs.Rows as rows
@@ -34,10 +34,11 @@ use Rattle.mcv_core.specs.declared.step.Step.{Step}
 use Rattle.mcv_core.specs.Calls.{calls_at}
 use Rattle.mcv_core.specs.CoreView.{CoreView, Effect, HasDone, HasEffect, answer_at, answer_in, at_row, does, flies, is_record, landing_at, landing_in, loss_at, loss_in, refused, refuses, refusing_at, refusing_in, replayed_in, sent_in, spooling_at, spooling_in, step_to, stores, with_mark}
 use Rattle.mcv_core.specs.Errands.{launch_of}
-use Rattle.mcv_core.specs.Facts.{counts_in, facts_of, state_in}
+use Rattle.mcv_core.specs.Facts.{counts_in, facts_of, records_in, state_in}
 use Rattle.mcv_core.specs.Rows.{awaiting_state, call_of, call_row, call_rows, row_by, state_of}
 use Rattle.mcv_core.specs.Settling.{is_gone, settled_row}
 use Rattle.mcv_core.specs.View.{CanSettle, core_view, has_settled}
+use Rattle.mcv_core.proofs.SpoolNumbers
 use Rattle.mcv_core.proofs.LegViews.{flies_by_state, row_stays, stored_rows, there, view_with}
 
 -- ---- the leg of these facts
@@ -50,6 +51,10 @@ pub record IsSeen (o : Option (Leg Errand)) (facts : LegFacts) : Type 0 where
 pub seen : (o : Option (Leg Errand)) (facts : LegFacts) → option_map facts_of o ≡ Some facts → IsSeen o facts
 seen None facts e = no_some e
 seen (Some l) facts e = record { leg = l; at = refl; is = same_some e }
+
+pub unseen : (o : Option (Leg Errand)) → option_map facts_of o ≡ None → o ≡ None
+unseen None e = refl
+unseen (Some l) e = no_some (sym e)
 
 -- the leg in this state
 pub record IsStated (o : Option (Leg Errand)) (t : State) : Type 0 where
@@ -207,12 +212,13 @@ module _ (d : Dispatcher) (n : ℕ) (l : Leg Errand) (at : legs d.queues n ≡ S
 
   -- a leg that the spool had refused is stored: its call has its outcome, or has ended
   pub stored_view : l.state ≡ states.Refused → (seq : ℕ) (q : Queues Errand) → legs q ≡ with_stored (legs d.queues) n seq → ((m : ℕ) → in_flight q m ≡ in_flight d.queues m)
-      → view_with d q ≡ record (core_view d) { rows = spooled_rows (arc_value d.accepted) (core_view d).rows n (row_by state_of l) }
+      → view_with d q ≡ record (core_view d) { rows = spooled_rows (arc_value d.accepted) (core_view d).rows n (row_by state_of l); records = put (core_view d).records n (Some seq) }
   stored_view is seq q legs_are flights_are =
       let w1 : Rows = with_leg_row (core_view d).rows n (Some (in_state (row_by state_of l) rows.InSpool)) in
       let rows_are : (view_with d q).rows ≡ recorded_rows_for (arc_value d.accepted) w1 (row_by state_of l) not_found l.content.call =
       stored_rows d n l at seq q legs_are ∙ sym (none_recorded w1 l.content.call (awaits_refused is)) in
-      λ j. record (core_view d) { rows = rows_are j; flights = fun_ext flights_are j }
+      let records_are = ap records_in legs_are ∙ SpoolNumbers.records_stored (legs d.queues) n seq l at in
+      λ j. record (core_view d) { rows = rows_are j; records = records_are j; flights = fun_ext flights_are j }
     where
       by_call : (w1 : Rows) (k : ℕ) (o : Option CallRow) → is_one o (λ c. has_no_outcome (leg_of (row_by state_of l)) c.call) ≡ false → recorded_rows_if (arc_value d.accepted) w1 (row_by state_of l) not_found k o ≡ w1
       by_call w1 k None t = refl
@@ -250,41 +256,66 @@ loss_refused d n fault f is = refusal (loss_at (core_view d) n) (core_view d) fa
     by_leg None at g = ap (at_row (λ z. loss_in (core_view d) n z z.state)) (ap (option_map (row_by state_of)) at)
     by_leg (Some l) at g = at_its_row d n l at (λ z. loss_in (core_view d) n z z.state) ∙ loss_grounded d n l at l.state refl g
 
+-- whether it is held, refused or not
+abbrev pub holds : State → Bool
+holds states.Waiting = false
+holds states.Sent = false
+holds states.Held = true
+holds states.Refused = true
+holds states.InSpool = false
+holds states.InReplay = false
+
+pub unheld : (t : State) → holds t ≡ false → state_of t ≡ rows.Held → ⊥
+unheld states.Waiting f e = cc
+unheld states.Sent f e = cc
+unheld states.Held f e = true≢false f
+unheld states.Refused f e = true≢false f
+unheld states.InSpool f e = cc
+unheld states.InReplay f e = cc
+
+-- none of these four is
+pub not_holding : (t : State) → (t ≡ states.Waiting) ⊎ ((t ≡ states.Sent) ⊎ ((t ≡ states.InSpool) ⊎ (t ≡ states.InReplay))) → holds t ≡ false
+not_holding t (inl e) = ap holds e
+not_holding t (inr (inl e)) = ap holds e
+not_holding t (inr (inr (inl e))) = ap holds e
+not_holding t (inr (inr (inr e))) = ap holds e
+
 -- the spool's events on a leg that is there
 module _ (d : Dispatcher) (n : ℕ) (l : Leg Errand) (at : legs d.queues n ≡ Some l) where
-  spooling_row : (text rest : List ℕ) → spooling_at (core_view d) n text rest ≡ spooling_in (core_view d) n (is_record (core_view d) n text rest (row_by state_of l)) (row_by state_of l) (state_of l.state)
-  spooling_row text rest = at_its_row d n l at (λ z. spooling_in (core_view d) n (is_record (core_view d) n text rest z) z z.state)
+  spooling_row : (seq : ℕ) (text rest : List ℕ) → spooling_at (core_view d) n seq text rest ≡ spooling_in (core_view d) n seq (is_record (core_view d) n text rest (row_by state_of l)) (row_by state_of l) (state_of l.state)
+  spooling_row seq text rest = at_its_row d n l at (λ z. spooling_in (core_view d) n seq (is_record (core_view d) n text rest z) z z.state)
 
   its_record : (text rest : List ℕ) → is_one ((core_view d).rows.legs n) (is_record (core_view d) n text rest) ≡ is_record (core_view d) n text rest (row_by state_of l)
   its_record text rest = ap (λ o. is_one o (is_record (core_view d) n text rest)) (there d n l at)
 
   -- a held leg is stored, where the record is its own
-  pub storing_effect : state_of l.state ≡ rows.Held → (text rest : List ℕ) → is_one ((core_view d).rows.legs n) (is_record (core_view d) n text rest) ≡ true → (new : CoreView) (step : Step)
-      → HasDone (at_row (stores (core_view d) n) ((core_view d).rows.legs n)) new step → HasEffect (spooling_at (core_view d) n text rest) (core_view d) new (Ok step)
-  storing_effect held text rest its new step h =
-      let same : spooling_at (core_view d) n text rest ≡ stores (core_view d) n (row_by state_of l) =
-      spooling_row text rest ∙ ap (spooling_in (core_view d) n (is_record (core_view d) n text rest (row_by state_of l)) (row_by state_of l)) held
-      ∙ ap (λ b. cond b (stores (core_view d) n (row_by state_of l)) (refuses NoSuchLeg)) (sym (its_record text rest) ∙ its) in
-      subst (λ e. HasEffect e (core_view d) new (Ok step)) (sym same) (effect_of (stores (core_view d) n (row_by state_of l)) (core_view d) new step (subst (λ o. HasDone (at_row (stores (core_view d) n) o) new step) (there d n l at) h))
+  pub storing_effect : state_of l.state ≡ rows.Held → (seq : ℕ) (text rest : List ℕ) → is_one ((core_view d).rows.legs n) (is_record (core_view d) n text rest) ≡ true → (new : CoreView) (step : Step)
+      → HasDone (at_row (stores (core_view d) n seq) ((core_view d).rows.legs n)) new step → HasEffect (spooling_at (core_view d) n seq text rest) (core_view d) new (Ok step)
+  storing_effect held seq text rest its new step h =
+      let same : spooling_at (core_view d) n seq text rest ≡ stores (core_view d) n seq (row_by state_of l) =
+      spooling_row seq text rest ∙ ap (spooling_in (core_view d) n seq (is_record (core_view d) n text rest (row_by state_of l)) (row_by state_of l)) held
+      ∙ ap (λ b. cond b (stores (core_view d) n seq (row_by state_of l)) (refuses NoSuchLeg)) (sym (its_record text rest) ∙ its) in
+      subst (λ e. HasEffect e (core_view d) new (Ok step)) (sym same) (effect_of (stores (core_view d) n seq (row_by state_of l)) (core_view d) new step (subst (λ o. HasDone (at_row (stores (core_view d) n seq) o) new step) (there d n l at) h))
 
-  not_spooled : (its : Bool) (t : rows.State) → (t ≡ rows.Held → ⊥) → spooling_in (core_view d) n its (row_by state_of l) t ≡ refuses NoSuchLeg
-  not_spooled its rows.Waiting no_hold = refl
-  not_spooled its rows.Sent no_hold = refl
-  not_spooled its rows.Held no_hold = absurd (no_hold refl)
-  not_spooled its rows.InSpool no_hold = refl
+  not_spooled : (seq : ℕ) (its : Bool) (t : rows.State) → (t ≡ rows.Held → ⊥) → spooling_in (core_view d) n seq its (row_by state_of l) t ≡ refuses NoSuchLeg
+  not_spooled seq its rows.Waiting no_hold = refl
+  not_spooled seq its rows.Sent no_hold = refl
+  not_spooled seq its rows.Held no_hold = absurd (no_hold refl)
+  not_spooled seq its rows.InSpool no_hold = refl
 
-  pub spooling_not_held : (state_of l.state ≡ rows.Held → ⊥) → (text rest : List ℕ) (fault : CoreFault) → fault ≡ NoSuchLeg → HasEffect (spooling_at (core_view d) n text rest) (core_view d) (core_view d) (Err fault)
-  spooling_not_held no_hold text rest fault is = refusal (spooling_at (core_view d) n text rest) (core_view d) fault (spooling_row text rest ∙ not_spooled (is_record (core_view d) n text rest (row_by state_of l)) (state_of l.state) no_hold) is
+  pub spooling_not_held : (state_of l.state ≡ rows.Held → ⊥) → (seq : ℕ) (text rest : List ℕ) (fault : CoreFault) → fault ≡ NoSuchLeg → HasEffect (spooling_at (core_view d) n seq text rest) (core_view d) (core_view d) (Err fault)
+  spooling_not_held no_hold seq text rest fault is =
+      refusal (spooling_at (core_view d) n seq text rest) (core_view d) fault (spooling_row seq text rest ∙ not_spooled seq (is_record (core_view d) n text rest (row_by state_of l)) (state_of l.state) no_hold) is
 
-  not_its : (t : rows.State) → spooling_in (core_view d) n false (row_by state_of l) t ≡ refuses NoSuchLeg
-  not_its rows.Waiting = refl
-  not_its rows.Sent = refl
-  not_its rows.Held = refl
-  not_its rows.InSpool = refl
+  not_its : (seq : ℕ) (t : rows.State) → spooling_in (core_view d) n seq false (row_by state_of l) t ≡ refuses NoSuchLeg
+  not_its seq rows.Waiting = refl
+  not_its seq rows.Sent = refl
+  not_its seq rows.Held = refl
+  not_its seq rows.InSpool = refl
 
-  spooling_other : (text rest : List ℕ) → is_one ((core_view d).rows.legs n) (is_record (core_view d) n text rest) ≡ false → spooling_at (core_view d) n text rest ≡ refuses NoSuchLeg
-  spooling_other text rest e =
-      spooling_row text rest ∙ ap (λ b. spooling_in (core_view d) n b (row_by state_of l) (state_of l.state)) (sym (its_record text rest) ∙ e) ∙ not_its (state_of l.state)
+  spooling_other : (seq : ℕ) (text rest : List ℕ) → is_one ((core_view d).rows.legs n) (is_record (core_view d) n text rest) ≡ false → spooling_at (core_view d) n seq text rest ≡ refuses NoSuchLeg
+  spooling_other seq text rest e =
+      spooling_row seq text rest ∙ ap (λ b. spooling_in (core_view d) n seq b (row_by state_of l) (state_of l.state)) (sym (its_record text rest) ∙ e) ∙ not_its seq (state_of l.state)
 
   refusing_row : refusing_at (core_view d) n ≡ refusing_in (core_view d) n (row_by state_of l) (state_of l.state)
   refusing_row = at_its_row d n l at (λ z. refusing_in (core_view d) n z z.state)
@@ -312,17 +343,17 @@ module _ (d : Dispatcher) (n : ℕ) (l : Leg Errand) (at : legs d.queues n ≡ S
   pub refusing_not_held : (state_of l.state ≡ rows.Held → ⊥) → (fault : CoreFault) → fault ≡ NoSuchLeg → HasEffect (refusing_at (core_view d) n) (core_view d) (core_view d) (Err fault)
   refusing_not_held no_hold fault is = refusal (refusing_at (core_view d) n) (core_view d) fault (refusing_row ∙ not_refused (state_of l.state) no_hold) is
 
-pub spooling_refused : (d : Dispatcher) (n : ℕ) (text rest : List ℕ) (fault : CoreFault) → is_one ((core_view d).rows.legs n) (is_record (core_view d) n text rest) ≡ false → fault ≡ NoSuchLeg
-    → HasEffect (spooling_at (core_view d) n text rest) (core_view d) (core_view d) (Err fault)
-spooling_refused d n text rest fault f is = refusal (spooling_at (core_view d) n text rest) (core_view d) fault (by_leg (legs d.queues n) refl) is
+pub spooling_refused : (d : Dispatcher) (n seq : ℕ) (text rest : List ℕ) (fault : CoreFault) → is_one ((core_view d).rows.legs n) (is_record (core_view d) n text rest) ≡ false → fault ≡ NoSuchLeg
+    → HasEffect (spooling_at (core_view d) n seq text rest) (core_view d) (core_view d) (Err fault)
+spooling_refused d n seq text rest fault f is = refusal (spooling_at (core_view d) n seq text rest) (core_view d) fault (by_leg (legs d.queues n) refl) is
   where
-    by_leg : (o : Option (Leg Errand)) → legs d.queues n ≡ o → spooling_at (core_view d) n text rest ≡ refuses NoSuchLeg
-    by_leg None at = ap (at_row (λ z. spooling_in (core_view d) n (is_record (core_view d) n text rest z) z z.state)) (ap (option_map (row_by state_of)) at)
-    by_leg (Some l) at = spooling_other d n l at text rest f
+    by_leg : (o : Option (Leg Errand)) → legs d.queues n ≡ o → spooling_at (core_view d) n seq text rest ≡ refuses NoSuchLeg
+    by_leg None at = ap (at_row (λ z. spooling_in (core_view d) n seq (is_record (core_view d) n text rest z) z z.state)) (ap (option_map (row_by state_of)) at)
+    by_leg (Some l) at = spooling_other d n l at seq text rest f
 
 pub refusing_absent : (d : Dispatcher) (n : ℕ) (fault : CoreFault) → legs d.queues n ≡ None → fault ≡ NoSuchLeg → HasEffect (refusing_at (core_view d) n) (core_view d) (core_view d) (Err fault)
 refusing_absent d n fault at is = refusal (refusing_at (core_view d) n) (core_view d) fault (ap (at_row (λ z. refusing_in (core_view d) n z z.state)) (ap (option_map (row_by state_of)) at)) is
 
-pub spooling_absent : (d : Dispatcher) (n : ℕ) (text rest : List ℕ) (fault : CoreFault) → legs d.queues n ≡ None → fault ≡ NoSuchLeg → HasEffect (spooling_at (core_view d) n text rest) (core_view d) (core_view d) (Err fault)
-spooling_absent d n text rest fault at is =
-    refusal (spooling_at (core_view d) n text rest) (core_view d) fault (ap (at_row (λ z. spooling_in (core_view d) n (is_record (core_view d) n text rest z) z z.state)) (ap (option_map (row_by state_of)) at)) is
+pub spooling_absent : (d : Dispatcher) (n seq : ℕ) (text rest : List ℕ) (fault : CoreFault) → legs d.queues n ≡ None → fault ≡ NoSuchLeg → HasEffect (spooling_at (core_view d) n seq text rest) (core_view d) (core_view d) (Err fault)
+spooling_absent d n seq text rest fault at is =
+    refusal (spooling_at (core_view d) n seq text rest) (core_view d) fault (ap (at_row (λ z. spooling_in (core_view d) n seq (is_record (core_view d) n text rest z) z z.state)) (ap (option_map (row_by state_of)) at)) is

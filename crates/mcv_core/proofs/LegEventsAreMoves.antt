@@ -60,11 +60,11 @@ module _ (v : CoreView) (core : IsCore v.routes v.rows) (n : ℕ) (s : LegRow) (
   loss_moves rows.Held is = tt
   loss_moves rows.InSpool is = by_test v n (fixed_value Lost) (flies v n s) _ _ (λ e. replayed lost_mark (fixed_value Lost) true is) (λ e. tt)
 
-  spooling_moves : (its : Bool) (t : rows.State) → s.state ≡ t → IsMove v n not_found (spooling_in v n its s t)
-  spooling_moves its rows.Waiting is = tt
-  spooling_moves its rows.Sent is = tt
-  spooling_moves its rows.Held is = by_test v n not_found its _ _ (λ e. record { allowed = tt; moves = spooled_moves v.routes v.rows n s core at is; routes = refl }) (λ e. tt)
-  spooling_moves its rows.InSpool is = tt
+  spooling_moves : (seq : ℕ) (its : Bool) (t : rows.State) → s.state ≡ t → IsMove v n not_found (spooling_in v n seq its s t)
+  spooling_moves seq its rows.Waiting is = tt
+  spooling_moves seq its rows.Sent is = tt
+  spooling_moves seq its rows.Held is = by_test v n not_found its _ _ (λ e. record { allowed = tt; moves = spooled_moves v.routes v.rows n s core at is; routes = refl }) (λ e. tt)
+  spooling_moves seq its rows.InSpool is = tt
 
   awaited_by : (o : Option ℕ) → s.call ≡ o → awaits v.rows.calls s o ≡ true → (k : ℕ) × (c : CallRow) × (s.call ≡ Some k) × (v.rows.calls k ≡ Some c) × (has_no_outcome (leg_of s) c.call ≡ true)
   awaited_by None is e = absurd (true≢false (sym e))
@@ -97,12 +97,12 @@ loss_does v new n step core h = does_of v new n (fixed_value Lost) step (loss_at
     by_row None e = tt
     by_row (Some s) e = loss_moves v core n s e s.state refl
 
-pub spooling_does : (v new : CoreView) (n : ℕ) (text rest : List ℕ) (step : Step) → IsCore v.routes v.rows → HasEffect (spooling_at v n text rest) v new (Ok step) → Does v new (change_move n not_found step.change)
-spooling_does v new n text rest step core h = does_of v new n not_found step (spooling_at v n text rest) (by_row (v.rows.legs n) refl) h
+pub spooling_does : (v new : CoreView) (n seq : ℕ) (text rest : List ℕ) (step : Step) → IsCore v.routes v.rows → HasEffect (spooling_at v n seq text rest) v new (Ok step) → Does v new (change_move n not_found step.change)
+spooling_does v new n seq text rest step core h = does_of v new n not_found step (spooling_at v n seq text rest) (by_row (v.rows.legs n) refl) h
   where
-    by_row : (o : Option LegRow) → v.rows.legs n ≡ o → IsMove v n not_found (at_row (λ s. spooling_in v n (is_record v n text rest s) s s.state) o)
+    by_row : (o : Option LegRow) → v.rows.legs n ≡ o → IsMove v n not_found (at_row (λ s. spooling_in v n seq (is_record v n text rest s) s s.state) o)
     by_row None e = tt
-    by_row (Some s) e = spooling_moves v core n s e (is_record v n text rest s) s.state refl
+    by_row (Some s) e = spooling_moves v core n s e seq (is_record v n text rest s) s.state refl
 
 pub refusing_does : (v new : CoreView) (n : ℕ) (step : Step) → IsCore v.routes v.rows → HasEffect (refusing_at v n) v new (Ok step) → Does v new (change_move n (fixed_value Lost) step.change)
 refusing_does v new n step core h = does_of v new n (fixed_value Lost) step (refusing_at v n) (by_row (v.rows.legs n) refl) h

@@ -22,9 +22,11 @@ use Rattle.mcv_core.specs.declared.errand.Errand.{Errand}
 use Rattle.mcv_core.specs.Calls.{calls_at}
 use Rattle.mcv_core.specs.CoreView.{CoreView, landed}
 use Rattle.mcv_core.specs.Errands.{launch_of}
+use Rattle.mcv_core.specs.Facts.{records_in}
 use Rattle.mcv_core.specs.Rows.{awaiting_state, row_by, rows_of, state_of}
 use Rattle.mcv_core.specs.Soundness.{spooled_in, IsSound}
 use Rattle.mcv_core.specs.View.{core_view, since_of}
+use Rattle.mcv_core.proofs.SpoolNumbers
 use Rattle.mcv_core.proofs.States
 
 and_true : (b : Bool) → (b && true) ≡ b
@@ -37,7 +39,7 @@ and_false false = refl
 
 -- the dispatcher's view with other queues
 abbrev pub view_with : Dispatcher → Queues Errand → CoreView
-view_with d q = record (core_view d) { rows = rows_of (calls_at d.calls) (legs q) (since_of d) d.next_call d.next_leg; flights = in_flight q }
+view_with d q = record (core_view d) { rows = rows_of (calls_at d.calls) (legs q) (since_of d) d.next_call d.next_leg; records = records_in (legs q); flights = in_flight q }
 
 abbrev pub IsSoundWith : Dispatcher → Queues Errand → (queued spooled : ℕ) → Type 0
 IsSoundWith d q queued spooled = IsSound (arc_value d.accepted) (calls_at d.calls) (legs q) (since_of d) d.moment.0 d.next_call d.next_leg d.counts.reserved queued spooled d.counts.running (room q) (servers q)
@@ -88,13 +90,17 @@ module _ (d : Dispatcher) (n : ℕ) (l : Leg Errand) (at : legs d.queues n ≡ S
   pub gone_rows : (q : Queues Errand) → legs q ≡ put (legs d.queues) n None → (view_with d q).rows ≡ with_leg_row (core_view d).rows n None
   gone_rows q is = States.rows_put state_of (calls_at d.calls) (legs d.queues) (legs q) (since_of d) d.next_call d.next_leg n None is
 
+  -- it keeps its record
+  pub records_stay : (t : State) (q : Queues Errand) → legs q ≡ with_state (legs d.queues) n t → records_in (legs q) ≡ records_in (legs d.queues)
+  records_stay t q is = ap records_in is ∙ SpoolNumbers.records_kept (legs d.queues) n t
+
   pub held_view : (q : Queues Errand) → legs q ≡ with_state (legs d.queues) n states.Held → is_flight l.state ≡ true → ((m : ℕ) → in_flight q m ≡ cond (is_in_flight_to m (legs d.queues n)) None (in_flight d.queues m))
       → view_with d q ≡ record (landed (core_view d) its_row) { rows = with_leg_row (core_view d).rows n (Some (in_state its_row rows.Held)) }
-  held_view q is flies e = λ j. record (core_view d) { rows = state_rows states.Held q is j; flights = flights_landed flies (in_flight q) e j }
+  held_view q is flies e = λ j. record (core_view d) { rows = state_rows states.Held q is j; records = records_stay states.Held q is j; flights = flights_landed flies (in_flight q) e j }
 
   pub gone_view : (q : Queues Errand) → legs q ≡ put (legs d.queues) n None → is_flight l.state ≡ true → ((m : ℕ) → in_flight q m ≡ cond (is_in_flight_to m (legs d.queues n)) None (in_flight d.queues m))
-      → view_with d q ≡ record (landed (core_view d) its_row) { rows = with_leg_row (core_view d).rows n None }
-  gone_view q is flies e = λ j. record (core_view d) { rows = gone_rows q is j; flights = flights_landed flies (in_flight q) e j }
+      → view_with d q ≡ record (landed (core_view d) its_row) { rows = with_leg_row (core_view d).rows n None; records = put (core_view d).records n None }
+  gone_view q is flies e = λ j. record (core_view d) { rows = gone_rows q is j; records = (ap records_in is ∙ SpoolNumbers.records_put (legs d.queues) n None) j; flights = flights_landed flies (in_flight q) e j }
 
   -- its row stays as it was
   pub row_stays : (s : LegRow) → (core_view d).rows.legs n ≡ Some s → with_leg_row (core_view d).rows n (Some s) ≡ (core_view d).rows
@@ -111,7 +117,7 @@ module _ (d : Dispatcher) (n : ℕ) (l : Leg Errand) (at : legs d.queues n ≡ S
 
   pub waits_view : state_of l.state ≡ rows.InSpool → (q : Queues Errand) → legs q ≡ with_state (legs d.queues) n states.InSpool → is_flight l.state ≡ true
       → ((m : ℕ) → in_flight q m ≡ cond (is_in_flight_to m (legs d.queues n)) None (in_flight d.queues m)) → view_with d q ≡ landed (core_view d) its_row
-  waits_view spooled q is flies e = λ j. record (core_view d) { rows = same_rows states.InSpool (sym spooled) q is j; flights = flights_landed flies (in_flight q) e j }
+  waits_view spooled q is flies e = λ j. record (core_view d) { rows = same_rows states.InSpool (sym spooled) q is j; records = records_stay states.InSpool q is j; flights = flights_landed flies (in_flight q) e j }
 
   -- ---- what holds of the dispatcher
 

@@ -1,3 +1,4 @@
+pub mod PlannedLegs
 pub mod Launches
 pub mod Places
 pub mod EntryCounts
@@ -13,6 +14,7 @@ pub mod LegEventsAreMoves
 pub mod Chapters
 pub mod Dispatchers
 pub mod Sendings
+pub mod EventsLead
 pub mod DeletesStayKept
 pub mod Landings
 pub mod Owners

@@ -254,10 +254,11 @@ module _ (r : RoutesValue) (records : List OpenedRecord) (numbers : List ℕ) (c
 
 pub view : (r : RoutesValue) (records : List (ℕ × SpoolRecord)) (calls : ℕ → Option Call) → calls ≡ (λ k. None) → (legs : ℕ → Option (Leg Errand)) (count : ℕ) → AreOpened (known_records r.servers records) (known_numbers r.servers records) legs count
     → (since : Option ℕ) → since ≡ since_at (breaks_of r) 0 → (flights : ℕ → Option ℕ) → ((s : ℕ) → flights s ≡ None) → (marks : ℕ → ServerFailures) → ((s : ℕ) → marks s ≡ no_mark) → (v : CoreView)
-    → v ≡ record { routes = r; rows = rows_of calls legs since 0 count; flights = flights; marks = marks; moment = 0; chapter = 0; entries = count } → v ≡ opened_view r records
+    → v ≡ record { routes = r; rows = rows_of calls legs since 0 count; records = records_in legs; flights = flights; marks = marks; moment = 0; chapter = 0; entries = count } → v ≡ opened_view r records
 view r records calls no_calls legs count are since since_is flights none marks unmarked v is =
     let same = rows_are r (known_records r.servers records) (known_numbers r.servers records) calls no_calls legs count are since since_is state_of refl in
     let nowhere : flights ≡ (λ s. None) = fun_ext none in
     let no_marks : marks ≡ (λ s. no_mark) = fun_ext unmarked in
     let counted = are.counted in
-    is ∙ (λ j. record { routes = r; rows = same j; flights = nowhere j; marks = no_marks j; moment = 0; chapter = 0; entries = counted j })
+    let numbers = fun_ext are.numbered in
+    is ∙ (λ j. record { routes = r; rows = same j; records = numbers j; flights = nowhere j; marks = no_marks j; moment = 0; chapter = 0; entries = counted j })

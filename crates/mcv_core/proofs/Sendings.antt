@@ -6,7 +6,7 @@ use Rattle.std.specs.Arc.{arc_value}
 use Rattle.mcv_base.specs.declared.request.LegId.{LegId}
 use Rattle.mcv_queues.specs.declared.fault.QueueFault.{QueueFault}
 use Rattle.mcv_queues.specs.declared.fault.QueueFault.TheVariants as queue_faults
-use Rattle.mcv_core.specs.declared.fault.CoreFault.TheVariants as core_faults
+use Rattle.mcv_core.specs.declared.fault.CoreFault.{CoreFault}
 use Rattle.mcv_core.specs.Fault.{queue_fault}
 use Rattle.std.proofs.Math.Path.{fun_ext}
 use Rattle.mcv_queues.specs.declared.leg.Leg.{Leg}
@@ -25,7 +25,8 @@ use Rattle.mcv_events.specs.Events.{in_state}
 use Rattle.mcv_events.proofs.EventsAreMoves.{states_are_no_moves}
 use Rattle.mcv_core.specs.declared.dispatcher.Dispatcher.{Dispatcher}
 use Rattle.mcv_core.specs.declared.errand.Errand.{Errand}
-use Rattle.mcv_core.specs.CoreView.{Unmoved, in_row_state, is_spooled, is_waiting}
+use Rattle.mcv_core.specs.CoreView.{CoreView, IsBusy, IsFree, Unmoved, in_row_state, is_spooled, is_waiting, with_flight}
+use Rattle.mcv_core.specs.Events.{IsUnsent}
 use Rattle.mcv_core.specs.Errands.{launch_of}
 use Rattle.mcv_core.specs.Rows.{row_by, state_of}
 use Rattle.mcv_core.specs.View.{core_view}
@@ -130,8 +131,8 @@ module _ (d : Dispatcher) (s : ℕ) where
     sent_rows h is = LegViews.state_rows d n h.leg h.at states.Sent q is ∙ ap (λ o. with_leg_row (core_view d).rows n (option_map (λ z. in_state z rows.Sent) o)) (sym (LegViews.there d n h.leg h.at))
 
     pub sent_view : (h : IsIn n states.Waiting) → legs q ≡ with_state (legs d.queues) n states.Sent
-        → LegViews.view_with d q ≡ record (core_view d) { rows = in_row_state (core_view d).rows n rows.Sent; flights = put (in_flight d.queues) s (Some n) }
-    sent_view h is = λ j. record (core_view d) { rows = sent_rows h is j; flights = flights_are j }
+        → LegViews.view_with d q ≡ with_flight (record (core_view d) { rows = in_row_state (core_view d).rows n rows.Sent }) s n
+    sent_view h is = λ j. record (core_view d) { rows = sent_rows h is j; records = LegViews.records_stay d n h.leg h.at states.Sent q is j; flights = flights_are j }
 
     pub sent_does : (h : IsIn n states.Waiting) → legs q ≡ with_state (legs d.queues) n states.Sent → IsCore (arc_value d.accepted) (LegViews.view_with d q).rows → Unmoved (core_view d) (LegViews.view_with d q)
     sent_does h is core = record {
@@ -144,8 +145,8 @@ module _ (d : Dispatcher) (s : ℕ) where
     replayed_rows : (h : IsIn n states.InSpool) → legs q ≡ with_state (legs d.queues) n states.InReplay → (LegViews.view_with d q).rows ≡ (core_view d).rows
     replayed_rows h is = LegViews.same_rows d n h.leg h.at states.InReplay (sym (ap state_of h.is)) q is
 
-    pub replayed_view : (h : IsIn n states.InSpool) → legs q ≡ with_state (legs d.queues) n states.InReplay → LegViews.view_with d q ≡ record (core_view d) { flights = put (in_flight d.queues) s (Some n) }
-    replayed_view h is = λ j. record (core_view d) { rows = replayed_rows h is j; flights = flights_are j }
+    pub replayed_view : (h : IsIn n states.InSpool) → legs q ≡ with_state (legs d.queues) n states.InReplay → LegViews.view_with d q ≡ with_flight (core_view d) s n
+    replayed_view h is = λ j. record (core_view d) { rows = replayed_rows h is j; records = LegViews.records_stay d n h.leg h.at states.InReplay q is j; flights = flights_are j }
 
     pub replayed_does : (h : IsIn n states.InSpool) → legs q ≡ with_state (legs d.queues) n states.InReplay → IsCore (arc_value d.accepted) (LegViews.view_with d q).rows → Unmoved (core_view d) (LegViews.view_with d q)
     replayed_does h is core = record { world = ap world_of (replayed_rows h is); core = core; routes = refl }
@@ -162,6 +163,8 @@ pub replay_sound : (d : Dispatcher) (s : ℕ) (result : Result LegId QueueFault)
 replay_sound d s (Ok leg) q first sent same room_is known = let h = first_spooled d s leg.0 first in LegViews.sound_replayed d leg.0 h.leg h.at h.is q sent room_is known
 replay_sound d s (Err fault) q first sent same room_is known = subst (λ v. LegViews.IsSoundWith d v d.counts.queued d.counts.spooled) (sym same) d.sound
 
-pub nothing_waits : (fault : QueueFault) → queue_fault fault ≡ core_faults.NothingWaiting → fault ≡ queue_faults.NothingWaiting
-nothing_waits queue_faults.Busy e = absurd cc
-nothing_waits queue_faults.NothingWaiting e = refl
+-- why no leg is sent
+pub unsent : (v : CoreView) (server : ℕ) (First : ℕ → CoreView → Option ℕ → Type 0) (fault : QueueFault) (f : CoreFault) → f ≡ queue_fault fault → (fault ≡ queue_faults.Busy → IsBusy v server)
+    → (fault ≡ queue_faults.NothingWaiting → IsFree v server × First server v None) → IsUnsent v server First f
+unsent v server First queue_faults.Busy f e busy nothing = subst (IsUnsent v server First) (sym e) (busy refl)
+unsent v server First queue_faults.NothingWaiting f e busy nothing = subst (IsUnsent v server First) (sym e) (nothing refl)

@@ -28,14 +28,16 @@ use Rattle.mcv_core.specs.declared.settle.Settling.{Settling}
 use Rattle.mcv_core.specs.declared.settle.Settling.TheVariants as kinds
 use Rattle.mcv_core.specs.Calls.{CanNoteAt, IsRecordedAt, calls_at}
 use Rattle.mcv_core.specs.Errands.{launch_of}
+use Rattle.mcv_core.specs.Facts.{records_in}
 use Rattle.mcv_core.specs.Recordings.{HasRecorded}
 use Rattle.mcv_core.specs.Rows.{call_of, call_row, row_by, rows_of, state_of}
-use Rattle.mcv_core.specs.Settling.{HasCounted, flights_to, freed_by, is_gone, is_settling, is_storing_leg, row_to, settled_row, settled_to}
+use Rattle.mcv_core.specs.Settling.{HasCounted, flights_to, freed_by, is_gone, is_settling, is_storing_leg, records_to, row_to, settled_row, settled_to}
 use Rattle.mcv_core.specs.Soundness.{spooled_in, spooled_one, IsSound}
 use Rattle.mcv_core.specs.View.{CanSettle, core_view, has_settled, since_of}
 use Rattle.mcv_core.proofs.LegViews as views
 use Rattle.mcv_core.proofs.Settlements
 use Rattle.mcv_core.proofs.Settlements.{Settles}
+use Rattle.mcv_core.proofs.SpoolNumbers
 use Rattle.mcv_core.proofs.States
 
 -- ---- by what becomes of the leg
@@ -189,19 +191,19 @@ module _ (d : Dispatcher) (n : ℕ) (to : Settling) (can : CanSettle d n to) whe
         if_awaited v s there awaits =
             sym (ap (recorded_rows_if (arc_value d.accepted) v s x can.call) there ∙ ap (λ b. cond b (recorded_rows (arc_value d.accepted) v can.call (call_row can.running) s.launch.position x) v) awaits)
 
-        view_then : (flights2 : ℕ → Option ℕ) → flights2 ≡ flights_to to (in_flight d.queues) (launch_of can.leg.content).server.0
-            → record (core_view d) { rows = rows_of (calls_at calls3) (legs q2) (since_of d) d.next_call (d.next_leg + result.launched); flights = flights2 } ≡ has_settled d n to x
-        view_then flights2 flights_are =
+        view_then : (records2 : ℕ → Option ℕ) → records2 ≡ records_to to n (records_in (legs d.queues)) → (flights2 : ℕ → Option ℕ) → flights2 ≡ flights_to to (in_flight d.queues) (launch_of can.leg.content).server.0
+            → record (core_view d) { rows = rows_of (calls_at calls3) (legs q2) (since_of d) d.next_call (d.next_leg + result.launched); records = records2; flights = flights2 } ≡ has_settled d n to x
+        view_then records2 records_are flights2 flights_are =
             let s : LegRow = row_by state_of can.leg in
             let w2 : Rows = with_leg_row (core_view d).rows n (row_to to s) in
             let rows_are : rows_of (calls_at calls3) (legs q2) (since_of d) d.next_call (d.next_leg + result.launched) ≡ recorded_rows_for (arc_value d.accepted) w2 s x can.leg.content.call =
             rows_then ∙ if_awaited w2 s (ap (option_map call_row) can.there) can.awaited ∙ sym (ap (recorded_rows_for (arc_value d.accepted) w2 s x) can.own) in
             let there : (core_view d).rows.legs n ≡ Some s = ap (option_map (row_by state_of)) can.at in
-            (λ j. record (core_view d) { rows = rows_are j; flights = flights_are j }) ∙ sym (ap (settled_row (core_view d) n to x) there)
+            (λ j. record (core_view d) { rows = rows_are j; records = records_are j; flights = flights_are j }) ∙ sym (ap (settled_row (core_view d) n to x) there)
 
-        pub view_settled : ((m : ℕ) → in_flight q1 m ≡ cond (is_in_flight_to m (legs d.queues n)) None (in_flight d.queues m)) → ((m : ℕ) → in_flight q2 m ≡ in_flight q1 m)
-            → record (core_view d) { rows = rows_of (calls_at calls3) (legs q2) (since_of d) d.next_call (d.next_leg + result.launched); flights = in_flight q2 } ≡ has_settled d n to x
-        view_settled left same_flights = view_then (in_flight q2) (flies_to d n can.leg can.at to can.flies (in_flight q2) (λ m. same_flights m ∙ left m))
+        pub view_settled : records_in (legs q2) ≡ records_in (legs q1) → ((m : ℕ) → in_flight q1 m ≡ cond (is_in_flight_to m (legs d.queues n)) None (in_flight d.queues m)) → ((m : ℕ) → in_flight q2 m ≡ in_flight q1 m)
+            → record (core_view d) { rows = rows_of (calls_at calls3) (legs q2) (since_of d) d.next_call (d.next_leg + result.launched); records = records_in (legs q2); flights = in_flight q2 } ≡ has_settled d n to x
+        view_settled same_records left same_flights = view_then (records_in (legs q2)) (same_records ∙ ap records_in legs1_is ∙ SpoolNumbers.records_settled to (legs d.queues) n can.leg can.at) (in_flight q2) (flies_to d n can.leg can.at to can.flies (in_flight q2) (λ m. same_flights m ∙ left m))
 
 -- ---- the same of the numbers that the code has found
 

@@ -12,11 +12,9 @@ use Rattle.mcv_core.specs.declared.errand.Errand.{Errand}
 use Rattle.mcv_core.specs.declared.launch.Entry.{Entry}
 use Rattle.mcv_core.specs.declared.settle.Settling.{Settling}
 use Rattle.mcv_core.specs.declared.settle.Settling.TheVariants as kinds
-use Rattle.mcv_core.specs.declared.step.LegState.TheVariants as leg_states
 use Rattle.mcv_core.specs.Facts.{record_in, records_in}
 use Rattle.mcv_core.specs.Launching.{errand_at, waiting_leg, with_legs}
 use Rattle.mcv_core.specs.Settling.{records_to, settled_to}
-use Rattle.mcv_core.specs.View.{records_after}
 
 -- a leg is put at a number
 pub records_put : (legs : ℕ → Option (Leg Errand)) (n : ℕ) (o : Option (Leg Errand)) → records_in (put legs n o) ≡ put (records_in legs) n (record_in o)
@@ -48,11 +46,6 @@ pub records_settled : (to : Settling) (legs : ℕ → Option (Leg Errand)) (n : 
 records_settled kinds.Gone legs n l at = records_put legs n None
 records_settled (kinds.InSpool seq) legs n l at = records_stored legs n seq l at
 records_settled kinds.Refused legs n l at = records_kept legs n states.Refused
-
--- a leg that is done with has no record any more
-pub records_gone : (b : Bool) (n : ℕ) (records : ℕ → Option ℕ) → records_after (cond b leg_states.Performed leg_states.Gone) n records ≡ put records n None
-records_gone true n records = refl
-records_gone false n records = refl
 
 no_record : (o : Option Errand) → record_in (option_map waiting_leg o) ≡ None
 no_record None = refl

@@ -24,6 +24,7 @@ use Rattle.mcv_plan.proofs.LaunchedOnce.{first_within, sends_part}
 use Rattle.mcv_world.proofs.Numbers.{same_some, no_some}
 use Rattle.mcv_events.proofs.Recording.{one_entry}
 use Rattle.mcv_core.specs.CallProgress.{CanAdvance, HasOpened, IsAt, IsTracked, Past, count, fresh, history_by, is_sent, launch_at, places_from}
+use Rattle.mcv_core.specs.PlannedLegs.{planned_legs}
 
 -- ---- entries by number
 
@@ -211,9 +212,10 @@ module _ (t : Tree) (s : Situation) (c : Choice) (es : List Launch) (past : Past
 
 -- ---- before any outcome
 
-pub opened : (t : Tree) (s : Situation) (c : Choice) (es : List Launch) (state : EvalState) → Evaluates t s c es (shape state) → count state ≡ length es → IsAfter [] state → fresh state ≡ wave (shape state)
+pub opened : (t : Tree) (s : Situation) (c : Choice) (es : List Launch) (state : EvalState) → es ≡ planned_legs t s c → Evaluates t s c es (shape state) → count state ≡ length es → IsAfter [] state → fresh state ≡ wave (shape state)
     → HasOpened t s c es state
-opened t s c es state law counted after wave_is = record {
+opened t s c es state planned law counted after wave_is = record {
+  planned = planned;
   laid = law.laid;
   counted = counted;
   tracked = ∣ record { evaluates = law; legal = tt; after = after } ∣₁;

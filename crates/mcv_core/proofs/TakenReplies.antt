@@ -1,13 +1,14 @@
 -- A call's reply is taken.
-use Rattle.std.proofs.Common.{◌≡◌, ◌&&◌, ◌||◌, not, cond, inl, inr, ℕ, suc, ◌+◌, ◌-◌, ◌<◌, ◌≤◌, Bool, true, false, nat_eq, List, [], ◌∷◌, fold, length, map, Option, Some, None, option_map, refl, sym, ap, ◌∙◌, subst, arith, true≢false}
+use Rattle.std.proofs.Common.{◌≡◌, ◌&&◌, ◌||◌, not, cond, inl, inr, ℕ, suc, ◌+◌, ◌-◌, ◌<◌, ◌≤◌, Bool, true, false, nat_eq, List, [], ◌∷◌, fold, length, map, Option, Some, None, Ok, Err, option_map, refl, sym, ap, ◌∙◌, subst, arith, true≢false}
 use Rattle.std.specs.Arc.{arc_value}
-use Rattle.std.specs.Prelude.{filter, is_some, option_and_then}
+use Rattle.std.specs.Prelude.{IsSome, filter, is_some, option_and_then}
 use Rattle.std.proofs.Math.Logic.{∥∥₁_elim}
 use Rattle.std.proofs.Math.Path.{fun_ext}
 use Rattle.std.proofs.Props.{props}
 use Rattle.std.proofs.lemmas.Bool.{cases_Bool, cases_eq, cases_lt}
 use Rattle.mcv_base.specs.declared.operation.Op.{Op}
 use Rattle.mcv_base.specs.declared.reply.Part.{Part}
+use Rattle.mcv_base.specs.declared.request.CallId.{CallId}
 use Rattle.mcv_base.specs.Reply.{fixed_value, outcome_of, part_value}
 use Rattle.mcv_plan.specs.declared.answer.Answer.{Answer}
 use Rattle.mcv_plan.specs.declared.answer.Source.{Source}
@@ -50,9 +51,11 @@ use Rattle.mcv_core.specs.declared.calls.Calls.{Calls}
 use Rattle.mcv_core.specs.declared.counts.Counts.{Counts}
 use Rattle.mcv_core.specs.declared.dispatcher.Dispatcher.{Dispatcher}
 use Rattle.mcv_core.specs.declared.errand.Errand.{Errand}
+use Rattle.mcv_core.specs.declared.fault.CoreFault.TheVariants.{NoSuchCall}
 use Rattle.mcv_core.specs.declared.take.Taking.{Taking}
 use Rattle.mcv_core.specs.Calls.{calls_at}
 use Rattle.mcv_core.specs.CoreView.{Moved, taken_row as taken_row_of, taken_view}
+use Rattle.mcv_core.specs.Events.{IsEvent, IsTaken}
 use Rattle.mcv_core.specs.Launching.{places_of}
 use Rattle.mcv_core.specs.Recordings.{has_ended_by}
 use Rattle.mcv_core.specs.Rows.{all_rows, awaiting_state, call_of, call_row, call_rows, entries_of, has_outcome, past_next, past_of, recorded_next, rows_by, rows_of, state_of, taken_at, IsRunning}
@@ -472,6 +475,39 @@ module _ (d : Dispatcher) (k : ℕ) (calls2 : Calls) (result : Taking) (there : 
     none_then none =
         let stays = unchanged (sym part_of ∙ none) in
         (ap (λ f. record (core_view d) { rows = rows_of f (legs d.queues) (since_of d) d.next_call d.next_leg }) stays, not_taken d k found.0 found.1 was.call was.part was.took (sym part_of ∙ none))
+
+-- the reply that was found is taken, or there is none to take
+pub taken_event : (d : Dispatcher) (call : CallId) (calls2 : Calls) (result : Taking) (there : (c : Call) → calls_at d.calls call.0 ≡ Some c → IsTakenAt (calls_at d.calls) (calls_at calls2) call.0 c result) (found : (c : Call) × (calls_at d.calls call.0 ≡ Some c))
+    (calls3 : Calls) (calls3_is : calls_at calls3 ≡ cond result.ended (put (calls_at calls2) call.0 None) (calls_at calls2)) (o : Option Part) → result.part ≡ o
+    → IsEvent (IsTaken (core_view d) call (Ok o)) (record (core_view d) { rows = rows_of (calls_at calls3) (legs d.queues) (since_of d) d.next_call d.next_leg })
+taken_event d call calls2 result there found calls3 calls3_is None none =
+    let h = none_then d call.0 calls2 result there found calls3 calls3_is none in
+    record { move = None; event = record { runs = subst (λ o. IsSome (option_map call_row o)) (sym found.1) refl; nothing = h.1; none = refl; same = h.0 } }
+taken_event d call calls2 result there found calls3 calls3_is (Some p) some = record {
+  move = Some (Taken call.0);
+  event = record {
+    reply = reply_then d call.0 calls2 result there found calls3 calls3_is p some;
+    view = view_then d call.0 calls2 result there found calls3 calls3_is p some;
+    move = refl;
+    does = moves_then d call.0 calls2 result there found calls3 calls3_is p some;
+  };
+}
+
+idle_row : (o : Option Call) → is_some o ≡ false → option_map call_row o ≡ None
+idle_row None e = refl
+idle_row (Some c) e = absurd (true≢false e)
+
+-- no such call runs
+pub untaken_event : (d : Dispatcher) (call : CallId) (calls2 : Calls) → calls_at calls2 ≡ calls_at d.calls → is_some (calls_at d.calls call.0) ≡ false
+    → IsEvent (IsTaken (core_view d) call (Err NoSuchCall)) (record (core_view d) { rows = rows_of (calls_at calls2) (legs d.queues) (since_of d) d.next_call d.next_leg })
+untaken_event d call calls2 same idle = record {
+  move = None;
+  event = record {
+    cause = (refl, idle_row (calls_at d.calls call.0) idle);
+    none = refl;
+    same = ap (λ f. record (core_view d) { rows = rows_of f (legs d.queues) (since_of d) d.next_call d.next_leg }) same;
+  };
+}
 
 -- ---- whether a reply can be taken
 

@@ -8,7 +8,7 @@ use Rattle.mcv_base.specs.declared.request.Request.{Request}
 use Rattle.mcv_base.specs.Reply.{ReplyValue, outcome_of, part_value}
 use Rattle.mcv_pools.specs.Symbol.{SymbolValue}
 use Rattle.mcv_route.specs.Routes.{RoutesValue}
-use Rattle.mcv_route.specs.Verdict.{IsReadable}
+use Rattle.mcv_route.specs.Verdict.{IsReadableNear}
 use Rattle.mcv_world.specs.KeptLegs.{KeepsLeg}
 use Rattle.mcv_world.specs.World.{Call, World, choice_of, reply_of, tree_of}
 use Rattle.mcv_core.specs.Asking.{IsAsked}
@@ -84,13 +84,13 @@ abbrev pub WasAnswered : List Event → List Answer → ℕ → ReplyValue → T
 WasAnswered events answers k x = Happened events answers (λ e a. taking_of e a ≡ Some (k, x))
 
 -- the call is what was asked for the key, with this reply; and if it is a delete and the reply no error, it keeps a leg to each server that could
--- answer a get or gets of its rest, by its route, in its era and under its choice
+-- answer a get, gets, incr or decr of its rest, by its route, in an era near its own and under its choice
 pub record IsKeptCall (r : RoutesValue) (chosen : SymbolValue → List ℕ → ℕ) (w : World) (k : ℕ) (request : Request) (key : ℕ) (x : ReplyValue) : Type 0 where
   pub call : Call
   pub there : w.calls k ≡ Some call
   pub asked : IsAsked r chosen request key call.op call.route call.rest call.choice
   pub reply : reply_of r call ≡ Some x
-  pub kept : call.op ≡ Delete → outcome_of x ≢ Error → (server : ℕ) → IsReadable (tree_of r call.route) call.rest call.since (choice_of call) server → KeepsLeg w k server
+  pub kept : call.op ≡ Delete → outcome_of x ≢ Error → (server : ℕ) → IsReadableNear r (tree_of r call.route) call.rest call.since (choice_of call) server → KeepsLeg w k server
 
 -- each call that was begun and answered
 abbrev pub AnsweredCallsAreKept : RoutesValue → (SymbolValue → List ℕ → ℕ) → List Event → List Answer → World → Type 0

@@ -1,7 +1,6 @@
 -- A call begins (own).
 use Rattle.std.specs.Arc.{arc_value}
 use Rattle.std.specs.Prelude.{◌≡◌, ◌<◌, ◌≤◌, ◌+◌, ◌*◌, ◌^◌, ℕ, false, List, [], Option, Some, None, ⊤, length, option_map, slice_get, slice_index, vec_capacity}
-use Rattle.mcv_base.specs.declared.operation.Op.{Op}
 use Rattle.mcv_base.specs.declared.request.Moment.{Moment}
 use Rattle.mcv_plan.specs.declared.state.EvalState.{EvalState}
 use Rattle.mcv_queues.specs.Queues.{room as leg_room}
@@ -12,8 +11,8 @@ use Rattle.mcv_route.specs.Situation.{asked}
 use Rattle.mcv_symbolic.specs.CoveredRoutes.{sizes_of}
 use Rattle.mcv_world.specs.Moves.{Began, Move, new_call}
 use Rattle.mcv_world.specs.PossibleMoves.{CanBegin}
+use Rattle.mcv_world.specs.World as world
 use Rattle.mcv_world.specs.World.{choice_of, situation_of, tree_of}
-use Rattle.mcv_events.specs.Entries.{IsLaidOut}
 use Rattle.mcv_events.specs.Events.{began_rows}
 use Rattle.mcv_events.specs.QueuedLegs.{queued_legs}
 use Rattle.mcv_events.specs.Reservations.{reserved}
@@ -22,6 +21,7 @@ use Rattle.mcv_core.specs.Calls.{room as call_room}
 use Rattle.mcv_core.specs.CoreView.{CoreView}
 use Rattle.mcv_core.specs.Rows.{call_of, entries_of}
 use Rattle.mcv_core.specs.CallProgress.{GoesToServers, HasOpened}
+use Rattle.mcv_core.specs.PlannedLegs.{legs_of_call}
 use Rattle.mcv_core.specs.declared.begin.Asked.{Asked}
 use Rattle.mcv_core.specs.declared.call.Call.{Call}
 use Rattle.mcv_core.specs.declared.dispatcher.Dispatcher.{Dispatcher}
@@ -31,54 +31,68 @@ use Rattle.mcv_core.specs.declared.fault.CoreFault.{CoreFault}
 use Rattle.mcv_core.specs.declared.fault.CoreFault.TheVariants.{UnknownPrefix, BadKey, LegsFull, ChapterFull, NothingWaiting, NoSuchLeg, Busy, ClockBack, Memory, NoSuchCall}
 use Rattle.mcv_core.specs.declared.launch.Entry.{Entry}
 
--- so many entries more fit: at most 65,536 legs are queued or reserved, and numbers are below 2^64
+-- so many legs more fit: at most 65,536 are queued or reserved, and numbers are below 2^64
 pub record LegsFit (v : CoreView) (count : ℕ) : Type 0 where
   pub limit : queued_legs v.rows + reserved v.routes v.rows + count ≤ 65536
   pub calls : v.rows.next_call + 1 < 2 ^ 64
   pub legs : v.rows.next_leg + reserved v.routes v.rows + count < 2 ^ 64
 
--- the chapter's history has room for two entries of the call, and three for each leg that it can launch
+-- how many entries of the history a call may write that can launch so many legs: two of its own, and three for each leg
+abbrev pub entries_for : ℕ → ℕ
+entries_for count = 2 + 3 * count
+
+-- the chapter's history has room for them
 abbrev pub HistoryFits : CoreView → ℕ → Type 0
-HistoryFits v count = v.entries + (2 + 3 * count) ≤ 1000000
+HistoryFits v count = v.entries + entries_for count ≤ 1000000
 
--- the call is added with its entries, and what it launches at once waits
-pub record HasBegun (old new : CoreView) (op : Op) (route : ℕ) (rest choice : List ℕ) : Type 0 where
-  pub entries : List Launch
-  pub laid : IsLaidOut old.routes (new_call (world_of old.rows) op route rest choice) entries
-  pub legs_fit : LegsFit old (length entries)
-  pub history_fits : HistoryFits old (length entries)
-  pub view : new ≡ record old { rows = began_rows old.routes old.rows (new_call (world_of old.rows) op route rest choice) entries; entries = old.entries + (2 + 3 * length entries) }
+-- how many legs a call can launch, and so reserves
+abbrev pub reservation : CoreView → world.Call → ℕ
+reservation v call = length (legs_of_call v.routes call)
 
--- why a call of these entries didn't begin: the legs are looked at before the history
-abbrev pub IsFullFor : CoreView → List Launch → CoreFault → Type 0
-IsFullFor v entries UnknownPrefix = ⊥
-IsFullFor v entries BadKey = ⊥
-IsFullFor v entries LegsFull = LegsFit v (length entries) → ⊥
-IsFullFor v entries ChapterFull = LegsFit v (length entries) × (HistoryFits v (length entries) → ⊥)
-IsFullFor v entries NothingWaiting = ⊥
-IsFullFor v entries NoSuchLeg = ⊥
-IsFullFor v entries Busy = ⊥
-IsFullFor v entries ClockBack = ⊥
-IsFullFor v entries Memory = ⊥
-IsFullFor v entries NoSuchCall = ⊥
+-- the call is added with all legs that it can launch, and what it launches at once waits
+abbrev pub begun : CoreView → world.Call → CoreView
+begun v call = record v { rows = began_rows v.routes v.rows call (legs_of_call v.routes call); entries = v.entries + entries_for (reservation v call) }
 
-pub record IsRefused (v : CoreView) (asked : Asked) (fault : CoreFault) : Type 0 where
-  pub entries : List Launch
-  pub laid : IsLaidOut v.routes (new_call (world_of v.rows) asked.op asked.route (arc_value asked.rest) asked.choice) entries
-  pub full : IsFullFor v entries fault
+-- the call fits, and begins
+pub record HasBegun (v w : CoreView) (call : world.Call) : Type 0 where
+  pub legs_fit : LegsFit v (reservation v call)
+  pub history_fits : HistoryFits v (reservation v call)
+  pub view : w ≡ begun v call
 
--- why a call didn't begin
-abbrev pub IsFull : CoreView → Asked → CoreFault → Type 0
-IsFull v asked UnknownPrefix = slice_get v.routes.entries asked.route ≡ None
-IsFull v asked BadKey = ⊥
-IsFull v asked LegsFull = IsRefused v asked LegsFull
-IsFull v asked ChapterFull = IsRefused v asked ChapterFull
-IsFull v asked NothingWaiting = ⊥
-IsFull v asked NoSuchLeg = ⊥
-IsFull v asked Busy = ⊥
-IsFull v asked ClockBack = ⊥
-IsFull v asked Memory = ⊤
-IsFull v asked NoSuchCall = ⊥
+-- why it doesn't: the legs are looked at before the history. Memory may run out at any time
+abbrev pub IsFull : CoreView → world.Call → CoreFault → Type 0
+IsFull v call UnknownPrefix = ⊥
+IsFull v call BadKey = ⊥
+IsFull v call LegsFull = LegsFit v (reservation v call) → ⊥
+IsFull v call ChapterFull = LegsFit v (reservation v call) × (HistoryFits v (reservation v call) → ⊥)
+IsFull v call NothingWaiting = ⊥
+IsFull v call NoSuchLeg = ⊥
+IsFull v call Busy = ⊥
+IsFull v call ClockBack = ⊥
+IsFull v call Memory = ⊤
+IsFull v call NoSuchCall = ⊥
+
+-- ---- what is asked for in memory
+
+-- the call that it asks for, in the era of the view
+abbrev pub asked_call : CoreView → Asked → world.Call
+asked_call v asks = new_call (world_of v.rows) asks.op asks.route (arc_value asks.rest) asks.choice
+
+abbrev pub began_for : Asked → Move
+began_for asks = Began asks.op asks.route (arc_value asks.rest) asks.choice
+
+-- why it doesn't begin
+abbrev pub IsUnstarted : CoreView → Asked → CoreFault → Type 0
+IsUnstarted v asks UnknownPrefix = slice_get v.routes.entries asks.route ≡ None
+IsUnstarted v asks BadKey = ⊥
+IsUnstarted v asks LegsFull = IsFull v (asked_call v asks) LegsFull
+IsUnstarted v asks ChapterFull = IsFull v (asked_call v asks) ChapterFull
+IsUnstarted v asks NothingWaiting = ⊥
+IsUnstarted v asks NoSuchLeg = ⊥
+IsUnstarted v asks Busy = ⊥
+IsUnstarted v asks ClockBack = ⊥
+IsUnstarted v asks Memory = ⊤
+IsUnstarted v asks NoSuchCall = ⊥
 
 -- the errand of the entry: it shares the call's entries
 abbrev pub IsErrandOf : Laid → ℕ → ℕ → Option Errand → Type 0
@@ -117,7 +131,7 @@ pub record HasLegRoom (d : Dispatcher) (count : ℕ) : Type 0 where
 -- and so many entries of the history
 pub record HasRoom (d : Dispatcher) (count : ℕ) : Type 0 where
   pub legs : HasLegRoom d count
-  pub entries : d.entries + (2 + 3 * count) ≤ 1000000
+  pub entries : d.entries + entries_for count ≤ 1000000
 
 abbrev pub began_by : Call → Move
 began_by c = Began c.op c.route (call_of c).rest c.choice
@@ -134,7 +148,7 @@ pub record CanAdd (d : Dispatcher) (c : Call) : Type 0 where
   pub legs_fit : d.counts.reserved + c.left ≤ leg_room d.queues
 
 abbrev pub has_begun : CoreView → Call → CoreView
-has_begun v c = record v { rows = began_rows v.routes v.rows (new_call (world_of v.rows) c.op c.route (call_of c).rest c.choice) (entries_of c); entries = v.entries + (2 + 3 * length (entries_of c)) }
+has_begun v c = record v { rows = began_rows v.routes v.rows (new_call (world_of v.rows) c.op c.route (call_of c).rest c.choice) (entries_of c); entries = v.entries + entries_for (length (entries_of c)) }
 
 -- the call's entries are laid out, and fit
 pub record CanStart (d : Dispatcher) (asks : Asked) (state : EvalState) (launches : List Launch) : Type 0 where

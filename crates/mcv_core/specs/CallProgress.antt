@@ -12,6 +12,7 @@ use Rattle.mcv_plan.specs.Evaluation.{IsAfter, leg_at, legs_count, shape}
 use Rattle.mcv_plan.specs.Laws.{Evaluates, IsLaidOut, history_at}
 use Rattle.mcv_plan.specs.PastOutcomes.{IsLegal}
 pub use Rattle.mcv_plan.specs.PastOutcomes.{Past}
+use Rattle.mcv_core.specs.PlannedLegs.{planned_legs}
 
 -- ---- entries
 
@@ -61,6 +62,7 @@ IsTracked t s c es past state = ∥ IsAt t s c es past state ∥₁
 
 -- a call's plan is laid out, and its state is that before any outcome
 pub record HasOpened (t : Tree) (s : Situation) (c : Choice) (es : List Launch) (state : EvalState) : Type 0 where
+  pub planned : es ≡ planned_legs t s c
   pub laid : IsLaidOut t s c es
   pub counted : count state ≡ length es
   pub tracked : IsTracked t s c es [] state

@@ -1,5 +1,5 @@
 -- What contracts see of a core, and what its events do to that: the rules of the core (own).
-use Rattle.std.specs.Prelude.{◌≡◌, ℕ, ◌&&◌, not, Bool, true, false, List, Option, Some, None, Result, Ok, Err, cond, length, nat_eq, option_map, slice_get}
+use Rattle.std.specs.Prelude.{◌≡◌, ℕ, ◌&&◌, not, Bool, true, false, List, Option, Some, None, IsSome, Result, Ok, Err, cond, length, nat_eq, option_map, slice_get}
 use Rattle.std.specs.Str.{bytes_eq}
 use Rattle.mcv_base.specs.declared.reply.FixedReply.TheVariants.{Lost}
 use Rattle.mcv_base.specs.Operation.{is_delete}
@@ -27,6 +27,8 @@ pub record CoreView : Type 0 where
   pub routes : RoutesValue
   -- the running calls, the legs that are queued or spooled, the era and the next numbers
   pub rows : Rows
+  -- of each leg the number of its record in the spool; None until it is stored there
+  pub records : ℕ → Option ℕ
   -- what is in flight to each server, sent or in replay
   pub flights : ℕ → Option ℕ
   pub marks : ℕ → ServerFailures
@@ -34,6 +36,24 @@ pub record CoreView : Type 0 where
   pub chapter : ℕ
   -- how many entries of its history the chapter's calls and spooled legs may write
   pub entries : ℕ
+
+-- ---- what is in flight
+
+-- one more may be sent to the server
+abbrev pub IsFree : CoreView → ℕ → Type 0
+IsFree v server = v.flights server ≡ None
+
+-- or not, for what is in flight to it
+abbrev pub IsBusy : CoreView → ℕ → Type 0
+IsBusy v server = IsSome (v.flights server)
+
+-- nothing is in flight
+abbrev pub IsGrounded : CoreView → Type 0
+IsGrounded v = (server n : ℕ) → names (v.flights server) n ≡ false
+
+-- the leg is in flight to the server
+abbrev pub with_flight : CoreView → (server leg : ℕ) → CoreView
+with_flight v server leg = record v { flights = put v.flights server (Some leg) }
 
 -- ---- moves
 
@@ -102,7 +122,7 @@ held v n s = does (step_to leg_states.Held changes.Nothing) (record (landed v s)
 
 -- any other leg is done with, and its call records the reply
 abbrev pub finished : CoreView → ℕ → ReplyValue → LegRow → Effect
-finished v n y s = does (step_to (state_after s y) changes.Answered) (record (landed v s) { rows = recorded_rows_for v.routes (with_leg_row v.rows n None) s y s.call })
+finished v n y s = does (step_to (state_after s y) changes.Answered) (record (landed v s) { rows = recorded_rows_for v.routes (with_leg_row v.rows n None) s y s.call; records = put v.records n None })
 
 -- a leg that was sent has this reply
 abbrev pub sent_in : CoreView → ℕ → ReplyValue → LegRow → Effect
@@ -111,11 +131,11 @@ sent_in v n y s = cond (is_counted_delete (leg_of s) && is_error_reply y) (held 
 -- a leg in replay is performed, or waits in the spool again
 abbrev pub replayed_in : CoreView → ℕ → Bool → LegRow → Effect
 replayed_in v n failed s =
-    cond failed (does (step_to leg_states.Spooled changes.Nothing) (landed v s)) (does (step_to leg_states.Performed changes.Performed) (record (landed v s) { rows = with_leg_row v.rows n None }))
+    cond failed (does (step_to leg_states.Spooled changes.Nothing) (landed v s)) (does (step_to leg_states.Performed changes.Performed) (record (landed v s) { rows = with_leg_row v.rows n None; records = put v.records n None }))
 
--- a held leg is in the spool, and its call records NOT_FOUND, if it has no outcome
-abbrev pub stores : CoreView → ℕ → LegRow → Effect
-stores v n s = does (step_to leg_states.Spooled changes.Spooled) (record v { rows = spooled_rows v.routes v.rows n s })
+-- a held leg is in the spool, as the record of this number, and its call records NOT_FOUND, if it has no outcome
+abbrev pub stores : CoreView → (n seq : ℕ) → LegRow → Effect
+stores v n seq s = does (step_to leg_states.Spooled changes.Spooled) (record v { rows = spooled_rows v.routes v.rows n s; records = put v.records n (Some seq) })
 
 -- the spool refused a held leg: its call records an error, once
 abbrev pub refused : CoreView → LegRow → Effect
@@ -158,11 +178,11 @@ module _ (v : CoreView) (n : ℕ) where
   loss_in s rows.InSpool = cond (flies s) (replayed_in (with_mark v s.launch.server.0 lost_mark) n true s) (refuses NoSuchLeg)
 
   -- a held leg is in the spool, where the record is the leg's
-  abbrev pub spooling_in : Bool → LegRow → rows.State → Effect
-  spooling_in its s rows.Waiting = refuses NoSuchLeg
-  spooling_in its s rows.Sent = refuses NoSuchLeg
-  spooling_in its s rows.Held = cond its (stores v n s) (refuses NoSuchLeg)
-  spooling_in its s rows.InSpool = refuses NoSuchLeg
+  abbrev pub spooling_in : ℕ → Bool → LegRow → rows.State → Effect
+  spooling_in seq its s rows.Waiting = refuses NoSuchLeg
+  spooling_in seq its s rows.Sent = refuses NoSuchLeg
+  spooling_in seq its s rows.Held = cond its (stores v n seq s) (refuses NoSuchLeg)
+  spooling_in seq its s rows.InSpool = refuses NoSuchLeg
 
   abbrev pub refusing_in : LegRow → rows.State → Effect
   refusing_in s rows.Waiting = refuses NoSuchLeg
@@ -180,8 +200,9 @@ module _ (v : CoreView) (n : ℕ) where
   abbrev pub is_record : List ℕ → List ℕ → LegRow → Bool
   is_record text rest s = is_text text (slice_get v.routes.servers s.launch.server.0) && bytes_eq rest s.rest
 
-  abbrev pub spooling_at : (text rest : List ℕ) → Effect
-  spooling_at text rest = at_row (λ s. spooling_in (is_record text rest s) s s.state) (v.rows.legs n)
+  -- the record has this number, this server's text and this rest
+  abbrev pub spooling_at : ℕ → (text rest : List ℕ) → Effect
+  spooling_at seq text rest = at_row (λ s. spooling_in seq (is_record text rest s) s s.state) (v.rows.legs n)
 
   abbrev pub refusing_at : Effect
   refusing_at = at_row (λ s. refusing_in s s.state) (v.rows.legs n)

@@ -1,4 +1,5 @@
 pub mod Fault
+pub mod PlannedLegs
 pub mod CallProgress
 pub mod Errands
 pub mod Launching
@@ -18,7 +19,8 @@ pub mod Asking
 pub mod KeptDeletes
 pub mod BorrowedCore
 pub mod AcknowledgedCalls
-pub mod Steps
 pub mod Answers
+pub mod Events
+pub mod Steps
 pub mod Readers
 pub mod Requests

@@ -44,6 +44,7 @@ abbrev pub opened_view : RoutesValue → List (ℕ × SpoolRecord) → CoreView
 opened_view r records = record {
   routes = r;
   rows = opened (since_at (breaks_of r) 0) (known_records r.servers records);
+  records = slice_get (known_numbers r.servers records);
   flights = λ s. None;
   marks = λ s. no_mark;
   moment = 0;

@@ -70,7 +70,7 @@ flights_to to.Refused flights server = flights
 
 abbrev pub settled_row : CoreView → ℕ → Settling → ReplyValue → Option LegRow → CoreView
 settled_row v n t x None = v
-settled_row v n t x (Some s) = record v { rows = recorded_rows_for v.routes (with_leg_row v.rows n (row_to t s)) s x s.call; flights = flights_to t v.flights s.launch.server.0 }
+settled_row v n t x (Some s) = record v { rows = recorded_rows_for v.routes (with_leg_row v.rows n (row_to t s)) s x s.call; records = records_to t n v.records; flights = flights_to t v.flights s.launch.server.0 }
 
 abbrev pub settled_view : CoreView → ℕ → Settling → ReplyValue → CoreView
 settled_view v n t x = settled_row v n t x (v.rows.legs n)

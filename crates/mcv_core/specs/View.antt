@@ -1,5 +1,5 @@
 -- What contracts see of the dispatcher (own).
-use Rattle.std.specs.Prelude.{◌≡◌, ℕ, true, false, Option, Some, None, option_map}
+use Rattle.std.specs.Prelude.{◌≡◌, ℕ, true, false, Option, Some, option_map}
 use Rattle.std.specs.Arc.{arc_value}
 use Rattle.mcv_base.specs.Reply.{ReplyValue}
 use Rattle.mcv_queues.specs.Queues.{in_flight, legs}
@@ -7,7 +7,7 @@ use Rattle.mcv_queues.specs.Marks.{marks}
 use Rattle.mcv_queues.specs.Legs.{is_flight}
 use Rattle.mcv_queues.specs.declared.leg.Leg.{Leg}
 use Rattle.mcv_world.specs.Moves.{has_no_outcome}
-use Rattle.mcv_world.specs.World.{is_counted_delete, put}
+use Rattle.mcv_world.specs.World.{is_counted_delete}
 use Rattle.mcv_events.specs.QueuedLegs.{count_in}
 use Rattle.mcv_events.specs.Rows.{leg_of}
 use Rattle.mcv_core.specs.Calls.{calls_at}
@@ -19,8 +19,6 @@ use Rattle.mcv_core.specs.declared.call.Call.{Call}
 use Rattle.mcv_core.specs.declared.errand.Errand.{Errand}
 use Rattle.mcv_core.specs.declared.dispatcher.Dispatcher.{Dispatcher}
 use Rattle.mcv_core.specs.declared.settle.Settling.{Settling}
-use Rattle.mcv_core.specs.declared.step.LegState.{LegState}
-use Rattle.mcv_core.specs.declared.step.LegState.TheVariants as leg_states
 
 abbrev pub since_of : Dispatcher → Option ℕ
 since_of d = option_map (λ m. m.0) d.since
@@ -29,6 +27,7 @@ abbrev pub core_view : Dispatcher → CoreView
 core_view d = record {
   routes = arc_value d.accepted;
   rows = rows_of (calls_at d.calls) (legs d.queues) (since_of d) d.next_call d.next_leg;
+  records = records_in (legs d.queues);
   flights = in_flight d.queues;
   marks = marks d.marks;
   moment = d.moment.0;
@@ -36,18 +35,9 @@ core_view d = record {
   entries = d.entries;
 }
 
--- of each leg the number of its record in the spool; None until it is stored there
+-- of each leg the number of its record in the spool
 abbrev pub records_of : Dispatcher → ℕ → Option ℕ
 records_of d = records_in (legs d.queues)
-
--- the same after an event that leads its leg to this state: a leg that is there keeps its record, and no other one changes
-abbrev pub records_after : LegState → ℕ → (ℕ → Option ℕ) → ℕ → Option ℕ
-records_after leg_states.Waiting n records = records
-records_after leg_states.Sent n records = records
-records_after leg_states.Held n records = records
-records_after leg_states.Spooled n records = records
-records_after leg_states.Performed n records = put records n None
-records_after leg_states.Gone n records = put records n None
 
 -- the leg is there, and its call runs and has no outcome for it; it is in flight exactly where it is to be done with
 pub record CanSettle (d : Dispatcher) (n : ℕ) (to : Settling) : Type 0 where

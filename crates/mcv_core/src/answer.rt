@@ -1,15 +1,14 @@
 //! Legs in flight are answered and lost.
 
-ghost use Rattle.std.specs.Prelude.{◌≡◌, ◌&&◌, not, cond, true, false, Some, IfOk, IfErr, OnErr, option_map};
+ghost use Rattle.std.specs.Prelude.{◌≡◌, ◌&&◌, not, cond, true, false, Some, IfOk, IfErr, option_map};
 ghost use Rattle.mcv_base.specs.Operation.{is_delete};
-ghost use Rattle.mcv_base.specs.Reply.{fixed_value, part_value};
+ghost use Rattle.mcv_base.specs.Reply.{part_value};
 ghost use Rattle.mcv_queues.specs.Legs.{is_flight, is_in_flight};
 ghost use Rattle.mcv_queues.specs.Queues.{legs};
-ghost use Rattle.mcv_core.specs.CoreView.{Does, HasDone, HasEffect, answer_at, at_row, change_move, finished, held, landing_at, loss_at, replayed_in, sent_in};
+ghost use Rattle.mcv_core.specs.CoreView.{HasDone, at_row, finished, held, landing_at, replayed_in, sent_in};
+ghost use Rattle.mcv_core.specs.Events.{IsAnsweredLeg, IsEvent, IsLostLeg};
 ghost use Rattle.mcv_core.specs.Facts.{counts_in, facts_of as facts_seen, state_in};
-ghost use Rattle.mcv_core.specs.KeptDeletes.{DeletesStayKept};
-ghost use Rattle.mcv_core.specs.View.{core_view, records_after, records_of};
-ghost use Rattle.mcv_base.specs.declared.reply.FixedReply.TheVariants.{Lost as LostReply};
+ghost use Rattle.mcv_core.specs.View.{core_view};
 ghost use Rattle.mcv_core.specs.declared.step.LegState.TheVariants as leg_states;
 
 use crate::counted::Counted;
@@ -24,13 +23,7 @@ use mcv_queues::State;
 impl Dispatcher {
     /// A leg in flight was answered.
     pub fn answered(&mut self, leg: LegId, parts: Parts) -> Result<Step, CoreFault>
-        ensures effect { HasEffect (answer_at (core_view self.old) leg.0 parts) (core_view self.old) (core_view self.new) result }
-        ensures does { IfOk result (λ step. Does (core_view self.old) (core_view self.new) (change_move leg.0 parts step.change)) }
-        ensures keeps { IfOk result (λ step. DeletesStayKept (core_view self.old) (core_view self.new) (change_move leg.0 parts step.change)) }
-        ensures records { IfOk result (λ step. records_of self.new ≡ records_after step.state leg.0 (records_of self.old)) }
-        ensures kept { OnErr result (records_of self.new ≡ records_of self.old) }
-        ensures chapter { (core_view self.new).chapter ≡ (core_view self.old).chapter }
-        ensures err { OnErr result (core_view self.new ≡ core_view self.old) }
+        ensures { IsEvent (IsAnsweredLeg (core_view self.old) leg parts result) (core_view self.new) }
     {
         match self.flying(leg) {
             Ok(facts) => {
@@ -44,13 +37,7 @@ impl Dispatcher {
 
     /// A leg in flight was lost.
     pub fn lost(&mut self, leg: LegId) -> Result<Step, CoreFault>
-        ensures effect { HasEffect (loss_at (core_view self.old) leg.0) (core_view self.old) (core_view self.new) result }
-        ensures does { IfOk result (λ step. Does (core_view self.old) (core_view self.new) (change_move leg.0 (fixed_value LostReply) step.change)) }
-        ensures keeps { IfOk result (λ step. DeletesStayKept (core_view self.old) (core_view self.new) (change_move leg.0 (fixed_value LostReply) step.change)) }
-        ensures records { IfOk result (λ step. records_of self.new ≡ records_after step.state leg.0 (records_of self.old)) }
-        ensures kept { OnErr result (records_of self.new ≡ records_of self.old) }
-        ensures chapter { (core_view self.new).chapter ≡ (core_view self.old).chapter }
-        ensures err { OnErr result (core_view self.new ≡ core_view self.old) }
+        ensures { IsEvent (IsLostLeg (core_view self.old) leg result) (core_view self.new) }
     {
         match self.flying(leg) {
             Ok(facts) => {
@@ -79,8 +66,7 @@ impl Dispatcher {
         requires at { option_map facts_seen (legs self.old.queues leg.0) ≡ Some facts }
         requires flies { is_flight facts.state ≡ true }
         requires one { part_value counted.taken ≡ part_value counted.outcome }
-        ensures done { HasDone (landing_at (core_view self.old) leg.0 (part_value counted.outcome)) (core_view self.new) result }
-        ensures records { records_of self.new ≡ records_after result.state leg.0 (records_of self.old) }
+        ensures { HasDone (landing_at (core_view self.old) leg.0 (part_value counted.outcome)) (core_view self.new) result }
     {
         let replayed = matches!(facts.state, State::InReplay);
         if !replayed {
@@ -98,8 +84,7 @@ impl Dispatcher {
         requires at { option_map facts_seen (legs self.old.queues leg.0) ≡ Some facts }
         requires sent { facts.state ≡ State.Sent }
         requires one { part_value counted.taken ≡ part_value counted.outcome }
-        ensures done { HasDone (at_row (sent_in (core_view self.old) leg.0 (part_value counted.outcome)) ((core_view self.old).rows.legs leg.0)) (core_view self.new) result }
-        ensures records { records_of self.new ≡ records_after result.state leg.0 (records_of self.old) }
+        ensures { HasDone (at_row (sent_in (core_view self.old) leg.0 (part_value counted.outcome)) ((core_view self.old).rows.legs leg.0)) (core_view self.new) result }
     {
         if facts.counted_delete && counted.is_error() {
             self.hold(leg)
@@ -113,8 +98,7 @@ impl Dispatcher {
         requires at { option_map facts_seen (legs self.old.queues leg.0) ≡ Some facts }
         requires sent { facts.state ≡ State.Sent }
         requires one { part_value counted.taken ≡ part_value counted.outcome }
-        ensures done { HasDone (at_row (finished (core_view self.old) leg.0 (part_value counted.outcome)) ((core_view self.old).rows.legs leg.0)) (core_view self.new) result }
-        ensures records { records_of self.new ≡ records_after result.state leg.0 (records_of self.old) }
+        ensures { HasDone (at_row (finished (core_view self.old) leg.0 (part_value counted.outcome)) ((core_view self.old).rows.legs leg.0)) (core_view self.new) result }
     {
         let state = LegState::after(facts.op, counted.is_error());
         self.settle(
@@ -134,8 +118,7 @@ impl Dispatcher {
     fn hold(&mut self, leg: LegId) -> Step
         requires sent { state_in (legs self.old.queues leg.0) ≡ Some State.Sent }
         requires counted { counts_in (legs self.old.queues leg.0) ≡ true }
-        ensures done { HasDone (at_row (held (core_view self.old) leg.0) ((core_view self.old).rows.legs leg.0)) (core_view self.new) result }
-        ensures records { records_of self.new ≡ records_after result.state leg.0 (records_of self.old) }
+        ensures { HasDone (at_row (held (core_view self.old) leg.0) ((core_view self.old).rows.legs leg.0)) (core_view self.new) result }
     {
         self.queues.held(leg);
         Step {
@@ -147,8 +130,7 @@ impl Dispatcher {
     /// A leg in replay waits in the spool again.
     fn wait_again(&mut self, leg: LegId) -> Step
         requires { state_in (legs self.old.queues leg.0) ≡ Some State.InReplay }
-        ensures done { HasDone (at_row (replayed_in (core_view self.old) leg.0 true) ((core_view self.old).rows.legs leg.0)) (core_view self.new) result }
-        ensures records { records_of self.new ≡ records_after result.state leg.0 (records_of self.old) }
+        ensures { HasDone (at_row (replayed_in (core_view self.old) leg.0 true) ((core_view self.old).rows.legs leg.0)) (core_view self.new) result }
     {
         self.queues.replay_failed(leg);
         Step {
@@ -160,8 +142,7 @@ impl Dispatcher {
     /// A leg in replay was performed.
     fn perform(&mut self, leg: LegId) -> Step
         requires { state_in (legs self.old.queues leg.0) ≡ Some State.InReplay }
-        ensures done { HasDone (at_row (replayed_in (core_view self.old) leg.0 false) ((core_view self.old).rows.legs leg.0)) (core_view self.new) result }
-        ensures records { records_of self.new ≡ records_after result.state leg.0 (records_of self.old) }
+        ensures { HasDone (at_row (replayed_in (core_view self.old) leg.0 false) ((core_view self.old).rows.legs leg.0)) (core_view self.new) result }
     {
         let _ = self.queues.gone(leg);
         self.counts = self.counts.performed();

@@ -1,18 +1,16 @@
 //! Calls begin: what takes memory.
 
 ghost use Rattle.std.specs.Arc.{arc_value};
-ghost use Rattle.std.specs.Prelude.{◌≡◌, ◌+◌, ◌*◌, ◌<◌, ◌≤◌, ◌^◌, ◌⊎◌, IfOk, IfErr, OnOk, OnErr, slice_index, Some};
+ghost use Rattle.std.specs.Prelude.{◌≡◌, ◌+◌, ◌*◌, ◌<◌, ◌≤◌, ◌^◌, ◌⊎◌, IfOk, IfErr, OnOk, OnErr, slice_index};
 ghost use Rattle.mcv_queues.specs.Queues.{room as leg_room};
 ghost use Rattle.mcv_base.specs.Key.{IsRest};
 ghost use Rattle.mcv_route.specs.Outcomes.{IsChoice};
 ghost use Rattle.mcv_route.specs.Routes.{IsSoundRoutes};
 ghost use Rattle.mcv_symbolic.specs.CoveredRoutes.{sizes_of};
-ghost use Rattle.mcv_world.specs.Moves.{Began};
-ghost use Rattle.mcv_core.specs.Beginning.{AreReadied, CanAdd, CanStart, HasBegun, HasLegRoom, HasRoom, IsFull, IsNewCall, began_by, has_begun};
+ghost use Rattle.mcv_core.specs.Beginning.{AreReadied, CanAdd, CanStart, HasBegun, HasLegRoom, HasRoom, IsNewCall, IsUnstarted, asked_call, began_by, began_for, has_begun};
 ghost use Rattle.mcv_core.specs.Calls.{room as call_room};
 ghost use Rattle.mcv_core.specs.CoreView.{Moved};
-ghost use Rattle.mcv_core.specs.KeptDeletes.{DeletesStayKept};
-ghost use Rattle.mcv_core.specs.View.{core_view, records_of};
+ghost use Rattle.mcv_core.specs.View.{core_view};
 ghost use Rattle.mcv_core.specs.declared.fault.CoreFault.TheVariants.{Memory as OutOfMemory};
 
 use crate::call::Call;
@@ -165,12 +163,10 @@ impl Dispatcher {
     /// nothing that contracts see.
     pub(crate) fn begin(&mut self, alloc: Global, asked: Asked) -> Result<CallId, CoreFault>
         requires choice { IsChoice (sizes_of (core_view self.old).routes) (slice_index asked.choice) }
-        ensures moves { IfOk result (λ call. Moved (core_view self.old) (core_view self.new) (Began asked.op asked.route (arc_value asked.rest) asked.choice)) }
-        ensures keeps { OnOk result (DeletesStayKept (core_view self.old) (core_view self.new) (Some (Began asked.op asked.route (arc_value asked.rest) asked.choice))) }
+        ensures moves { OnOk result (Moved (core_view self.old) (core_view self.new) (began_for asked)) }
         ensures call { IfOk result (λ call. call.0 ≡ (core_view self.old).rows.next_call) }
-        ensures records { records_of self.new ≡ records_of self.old }
-        ensures view { OnOk result (HasBegun (core_view self.old) (core_view self.new) asked.op asked.route (arc_value asked.rest) asked.choice) }
-        ensures refused { IfErr result (IsFull (core_view self.old) asked) }
+        ensures view { OnOk result (HasBegun (core_view self.old) (core_view self.new) (asked_call (core_view self.old) asked)) }
+        ensures refused { IfErr result (IsUnstarted (core_view self.old) asked) }
         ensures err { OnErr result (core_view self.new ≡ core_view self.old) }
     {
         let Some(tree) = self.accepted.routes().route(asked.route) else {
@@ -199,10 +195,9 @@ impl Dispatcher {
         launches: Vec<Launch>,
     ) -> Result<CallId, CoreFault>
         requires can { CanStart self.old asked state launches.items }
-        ensures moves { IfOk result (λ call. Moved (core_view self.old) (core_view self.new) (Began asked.op asked.route (arc_value asked.rest) asked.choice)) }
+        ensures moves { OnOk result (Moved (core_view self.old) (core_view self.new) (began_for asked)) }
         ensures call { IfOk result (λ call. call.0 ≡ (core_view self.old).rows.next_call) }
-        ensures records { records_of self.new ≡ records_of self.old }
-        ensures view { OnOk result (HasBegun (core_view self.old) (core_view self.new) asked.op asked.route (arc_value asked.rest) asked.choice) }
+        ensures view { OnOk result (HasBegun (core_view self.old) (core_view self.new) (asked_call (core_view self.old) asked)) }
         ensures memory { IfErr result (λ fault. fault ≡ OutOfMemory) }
         ensures err { OnErr result (core_view self.new ≡ core_view self.old) }
     {
@@ -239,7 +234,6 @@ impl Dispatcher {
     fn make_room(&mut self, count: usize) -> Result<(), CoreFault>
         requires { self.old.counts.reserved + count < 2 ^ 64 }
         ensures view { core_view self.new ≡ core_view self.old }
-        ensures records { records_of self.new ≡ records_of self.old }
         ensures counts { self.new.counts ≡ self.old.counts }
         ensures accepted { self.new.accepted ≡ self.old.accepted }
         ensures since { self.new.since ≡ self.old.since }
@@ -259,7 +253,6 @@ impl Dispatcher {
     fn add(&mut self, mut call: Call) -> CallId
         requires { CanAdd self.old call }
         ensures number { result.0 ≡ (core_view self.old).rows.next_call }
-        ensures records { records_of self.new ≡ records_of self.old }
         ensures view { core_view self.new ≡ has_begun (core_view self.old) call }
         ensures moves { Moved (core_view self.old) (core_view self.new) (began_by call) }
     {

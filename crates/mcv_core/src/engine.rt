@@ -1,17 +1,18 @@
 //! The core: the dispatcher with the hash that picks the servers of a key.
 
 ghost use Rattle.std.specs.Arc.{arc_value};
-ghost use Rattle.std.specs.Prelude.{◌≡◌, ◌≤◌, ℕ, Some, None, IfOk, IfErr, IfSome, OnErr, length, slice_get, true};
+ghost use Rattle.std.specs.Prelude.{◌≡◌, ◌≤◌, None, IfOk, IfErr, IfSome, length, true};
 ghost use Rattle.std.specs.Borrow.{sem};
 ghost use Rattle.mcv_base.specs.Key.{is_key_word};
 ghost use Rattle.mcv_pools.specs.Choice.{HasIndexEach};
 ghost use Rattle.mcv_symbolic.specs.CoveredRoutes.{AreCovered};
 ghost use Rattle.mcv_events.specs.Rows.{world_of};
-ghost use Rattle.mcv_core.specs.Asking.{HasBegunFor, HasNoKey, IsAsked, IsKeyOf, IsRefusedFor};
+ghost use Rattle.mcv_core.specs.Asking.{HasNoKey, IsAsked, IsKeyOf, IsUnbegun};
 ghost use Rattle.mcv_core.specs.BorrowedCore.{BorrowsEvents};
+ghost use Rattle.mcv_core.specs.Events.{IsBegun, IsEvent};
 ghost use Rattle.mcv_core.specs.KeptDeletes.{KeepsDeletes};
-ghost use Rattle.mcv_core.specs.Opening.{known_numbers, opened_view};
-ghost use Rattle.mcv_core.specs.View.{core_view, records_of};
+ghost use Rattle.mcv_core.specs.Opening.{opened_view};
+ghost use Rattle.mcv_core.specs.View.{core_view};
 ghost use Rattle.mcv_core.specs.declared.fault.CoreFault.TheVariants.{Memory as OutOfMemory};
 
 use crate::begin::Asked;
@@ -41,7 +42,6 @@ impl<H: KeyHash + Drop> Core<H> {
         records: &[(u64, SpoolRecord)],
     ) -> Result<Core<H>, CoreFault>
         ensures view { IfOk result (λ core. core_view core.dispatcher ≡ opened_view (arc_value accepted) records.now) }
-        ensures records { IfOk result (λ core. (n : ℕ) → records_of core.dispatcher n ≡ slice_get (known_numbers (arc_value accepted).servers records.now) n) }
         ensures hash { IfOk result (λ core. core.hash ≡ hash) }
         ensures keeps { IfOk result (λ core. KeepsDeletes (core_view core.dispatcher) (world_of (core_view core.dispatcher).rows)) }
         ensures err { IfErr result (λ fault. fault ≡ OutOfMemory) }
@@ -75,11 +75,7 @@ impl<H: KeyHash + Drop> Core<H> {
         request: Arc<Request>,
         key: usize,
     ) -> Result<CallId, CoreFault>
-        ensures begun { IfOk result (λ call. HasBegunFor (core_view self.old.dispatcher) (H.chosen self.old.hash) (arc_value request) key (core_view self.new.dispatcher)) }
-        ensures call { IfOk result (λ call. call.0 ≡ (core_view self.old.dispatcher).rows.next_call) }
-        ensures records { records_of self.new.dispatcher ≡ records_of self.old.dispatcher }
-        ensures refused { IfErr result (IsRefusedFor (core_view self.old.dispatcher) (H.chosen self.old.hash) (arc_value request) key) }
-        ensures err { OnErr result (core_view self.new.dispatcher ≡ core_view self.old.dispatcher) }
+        ensures begun { IsEvent (IsBegun (core_view self.old.dispatcher) (H.chosen self.old.hash) (arc_value request) key result) (core_view self.new.dispatcher) }
         ensures hash { self.new.hash ≡ self.old.hash }
     {
         match self.asked(alloc, request, key) {
@@ -92,7 +88,7 @@ impl<H: KeyHash + Drop> Core<H> {
     fn asked(&self, alloc: Global, request: Arc<Request>, key: usize) -> Result<Asked, CoreFault>
         ensures asked { IfOk result (λ asked. IsAsked (core_view self.now.dispatcher).routes (H.chosen self.now.hash) (arc_value request) key asked.op asked.route (arc_value asked.rest) asked.choice) }
         ensures within { IfOk result (λ asked. HasIndexEach (core_view self.now.dispatcher).routes.symbols asked.choice) }
-        ensures refused { IfErr result (IsRefusedFor (core_view self.now.dispatcher) (H.chosen self.now.hash) (arc_value request) key) }
+        ensures refused { IfErr result (IsUnbegun (core_view self.now.dispatcher) (H.chosen self.now.hash) (arc_value request) key) }
     {
         let Some((op, prefix, rest)) = key_of(&request, key) else {
             return Err(CoreFault::BadKey);

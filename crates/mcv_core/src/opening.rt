@@ -1,7 +1,7 @@
 //! A core is opened with the records that the spool held.
 
 ghost use Rattle.std.specs.Arc.{arc_value};
-ghost use Rattle.std.specs.Prelude.{◌≡◌, ◌<◌, ◌≤◌, ◌+◌, ◌^◌, ◌++◌, ℕ, List, [], Some, None, IfOk, IfErr, OnOk, length, option_map, slice_get};
+ghost use Rattle.std.specs.Prelude.{◌≡◌, ◌<◌, ◌≤◌, ◌+◌, ◌^◌, ◌++◌, ℕ, List, [], Some, None, IfOk, IfErr, OnOk, length, option_map};
 ghost use Rattle.std.specs.Str.{bytes_eq};
 ghost use Rattle.mcv_events.specs.Runs.{OpenedRecord};
 ghost use Rattle.mcv_pools.specs.Table.{number_in};
@@ -9,7 +9,7 @@ ghost use Rattle.mcv_queues.specs.declared.leg.State.TheVariants.{InSpool};
 ghost use Rattle.mcv_queues.specs.Queues.{in_flight, legs, room as leg_room, servers as known};
 ghost use Rattle.mcv_world.specs.World.{put};
 ghost use Rattle.mcv_core.specs.Opening.{AreOpened, IsOpenedErrand, known_numbers, known_records, opened_view, with_number, with_server};
-ghost use Rattle.mcv_core.specs.View.{core_view, records_of};
+ghost use Rattle.mcv_core.specs.View.{core_view};
 ghost use Rattle.mcv_core.specs.declared.fault.CoreFault.TheVariants.{Memory as OutOfMemory};
 
 use crate::calls::Calls;
@@ -144,7 +144,6 @@ impl Dispatcher {
         records: &[(u64, SpoolRecord)],
     ) -> Result<Dispatcher, CoreFault>
         ensures view { IfOk result (λ d. core_view d ≡ opened_view (arc_value accepted) records.now) }
-        ensures records { IfOk result (λ d. (n : ℕ) → records_of d n ≡ slice_get (known_numbers (arc_value accepted).servers records.now) n) }
         ensures err { IfErr result (λ fault. fault ≡ OutOfMemory) }
     {
         let opened = opened_legs(alloc, &accepted, records)?;

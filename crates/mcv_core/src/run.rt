@@ -150,8 +150,8 @@ impl<H: KeyHash + Drop> Core<H> {
 }
 
 /// A core over accepted routes, after these events: **no acknowledged delete is dropped**. Whatever the events are, each
-/// delete that has a reply other than an error keeps, for every server that could answer a get or gets of its rest, a
-/// counted leg of its own that the server performed, that is queued, or that is spooled (`Kept` of
+/// delete that has a reply other than an error keeps, for every server that could answer a get, gets, incr or decr of its
+/// rest, a counted leg of its own that the server performed, that is queued, or that is spooled (`Kept` of
 /// mcv_world/specs/KeptLegs.antt, in the world to which the events' moves lead). The one error is `Memory`.
 ///
 /// Its premises: a server that says DELETED or NOT_FOUND to a delete leg has performed it; the process goes on; the hash is

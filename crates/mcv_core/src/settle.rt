@@ -5,9 +5,9 @@ ghost use Rattle.mcv_base.specs.Reply.{part_value};
 ghost use Rattle.mcv_queues.specs.Legs.{IsSentTo, is_in_flight, is_in_flight_to};
 ghost use Rattle.mcv_queues.specs.Queues.{in_flight, legs, room, servers as known};
 ghost use Rattle.mcv_world.specs.World.{put};
-ghost use Rattle.mcv_core.specs.Settling.{IsOwner, is_gone, records_to, settled_to};
+ghost use Rattle.mcv_core.specs.Settling.{IsOwner, is_gone, settled_to};
 ghost use Rattle.mcv_core.specs.Facts.{facts_of as facts_seen};
-ghost use Rattle.mcv_core.specs.View.{CanSettle, core_view, has_settled, records_of};
+ghost use Rattle.mcv_core.specs.View.{CanSettle, core_view, has_settled};
 
 use crate::dispatcher::Dispatcher;
 use crate::errand::Errand;
@@ -92,8 +92,7 @@ impl Dispatcher {
         requires can { CanSettle self.old leg.0 to }
         requires sent { is_gone to ≡ true → IsSentTo owner.server.0 (legs self.old.queues leg.0) }
         requires one { part_value taken ≡ part_value outcome }
-        ensures view { core_view self.new ≡ has_settled self.old leg.0 to (part_value outcome) }
-        ensures records { records_of self.new ≡ records_to to leg.0 (records_of self.old) }
+        ensures { core_view self.new ≡ has_settled self.old leg.0 to (part_value outcome) }
     {
         leave(&mut self.queues, leg, owner.server, to);
         let step = self.calls.hear(

@@ -1,15 +1,12 @@
 //! The spool stores and refuses held legs.
 
-ghost use Rattle.std.specs.Prelude.{◌≡◌, Some, IfOk, OnErr};
-ghost use Rattle.mcv_base.specs.Reply.{fixed_value, not_found};
+ghost use Rattle.std.specs.Prelude.{◌≡◌, Some};
 ghost use Rattle.mcv_queues.specs.Queues.{legs};
 ghost use Rattle.mcv_world.specs.Moves.{is_one};
-ghost use Rattle.mcv_world.specs.World.{put};
-ghost use Rattle.mcv_core.specs.CoreView.{Does, HasDone, HasEffect, at_row, change_move, is_record, refused, refusing_at, spooling_at, stores};
+ghost use Rattle.mcv_core.specs.CoreView.{HasDone, at_row, is_record, refused, stores};
+ghost use Rattle.mcv_core.specs.Events.{IsEvent, IsRefusedLeg, IsSpooledLeg};
 ghost use Rattle.mcv_core.specs.Facts.{state_in};
-ghost use Rattle.mcv_core.specs.KeptDeletes.{DeletesStayKept};
-ghost use Rattle.mcv_core.specs.View.{core_view, records_of};
-ghost use Rattle.mcv_base.specs.declared.reply.FixedReply.TheVariants.{Lost as LostReply};
+ghost use Rattle.mcv_core.specs.View.{core_view};
 
 use crate::counted::Counted;
 use crate::dispatcher::Dispatcher;
@@ -23,13 +20,7 @@ use mcv_spool::{SpoolRecord, Stored};
 impl Dispatcher {
     /// A held leg is stored in the spool, where the record is its server's text and its rest. The leg keeps the record's number.
     pub fn spooled(&mut self, leg: LegId, stored: Stored) -> Result<Step, CoreFault>
-        ensures effect { HasEffect (spooling_at (core_view self.old) leg.0 stored.«record».server stored.«record».rest) (core_view self.old) (core_view self.new) result }
-        ensures does { IfOk result (λ step. Does (core_view self.old) (core_view self.new) (change_move leg.0 not_found step.change)) }
-        ensures keeps { IfOk result (λ step. DeletesStayKept (core_view self.old) (core_view self.new) (change_move leg.0 not_found step.change)) }
-        ensures records { IfOk result (λ step. records_of self.new ≡ put (records_of self.old) leg.0 (Some stored.seq)) }
-        ensures kept { OnErr result (records_of self.new ≡ records_of self.old) }
-        ensures chapter { (core_view self.new).chapter ≡ (core_view self.old).chapter }
-        ensures err { OnErr result (core_view self.new ≡ core_view self.old) }
+        ensures { IsEvent (IsSpooledLeg (core_view self.old) leg stored result) (core_view self.new) }
     {
         if !self.is_record_of(leg, stored.record()) {
             return Err(CoreFault::NoSuchLeg);
@@ -48,12 +39,7 @@ impl Dispatcher {
 
     /// The spool refused a held leg: its call records an error, unless it has an outcome.
     pub fn spool_refused(&mut self, leg: LegId) -> Result<Step, CoreFault>
-        ensures effect { HasEffect (refusing_at (core_view self.old) leg.0) (core_view self.old) (core_view self.new) result }
-        ensures does { IfOk result (λ step. Does (core_view self.old) (core_view self.new) (change_move leg.0 (fixed_value LostReply) step.change)) }
-        ensures keeps { IfOk result (λ step. DeletesStayKept (core_view self.old) (core_view self.new) (change_move leg.0 (fixed_value LostReply) step.change)) }
-        ensures records { records_of self.new ≡ records_of self.old }
-        ensures chapter { (core_view self.new).chapter ≡ (core_view self.old).chapter }
-        ensures err { OnErr result (core_view self.new ≡ core_view self.old) }
+        ensures { IsEvent (IsRefusedLeg (core_view self.old) leg result) (core_view self.new) }
     {
         let Some(facts) = self.facts(leg) else {
             return Err(CoreFault::NoSuchLeg);
@@ -87,8 +73,7 @@ impl Dispatcher {
     /// A held leg without an outcome is stored, as the record of this number.
     fn store_held(&mut self, leg: LegId, seq: u64) -> Step
         requires { state_in (legs self.old.queues leg.0) ≡ Some State.Held }
-        ensures done { HasDone (at_row (stores (core_view self.old) leg.0) ((core_view self.old).rows.legs leg.0)) (core_view self.new) result }
-        ensures records { records_of self.new ≡ put (records_of self.old) leg.0 (Some seq) }
+        ensures { HasDone (at_row (stores (core_view self.old) leg.0 seq) ((core_view self.old).rows.legs leg.0)) (core_view self.new) result }
     {
         let reply = Counted::not_found();
         let owner = self.owner_of(leg);
@@ -108,8 +93,7 @@ impl Dispatcher {
     /// A leg that the spool had refused, so that it has an outcome, is stored, as the record of this number.
     fn store_refused(&mut self, leg: LegId, seq: u64) -> Step
         requires { state_in (legs self.old.queues leg.0) ≡ Some State.Refused }
-        ensures done { HasDone (at_row (stores (core_view self.old) leg.0) ((core_view self.old).rows.legs leg.0)) (core_view self.new) result }
-        ensures records { records_of self.new ≡ put (records_of self.old) leg.0 (Some seq) }
+        ensures { HasDone (at_row (stores (core_view self.old) leg.0 seq) ((core_view self.old).rows.legs leg.0)) (core_view self.new) result }
     {
         self.queues.spooled(leg, seq);
         self.counts = self.counts.stored();
@@ -122,8 +106,7 @@ impl Dispatcher {
     /// The spool refused a held leg without an outcome.
     fn refuse(&mut self, leg: LegId) -> Step
         requires { state_in (legs self.old.queues leg.0) ≡ Some State.Held }
-        ensures done { HasDone (at_row (refused (core_view self.old)) ((core_view self.old).rows.legs leg.0)) (core_view self.new) result }
-        ensures records { records_of self.new ≡ records_of self.old }
+        ensures { HasDone (at_row (refused (core_view self.old)) ((core_view self.old).rows.legs leg.0)) (core_view self.new) result }
     {
         let reply = Counted::lost();
         let owner = self.owner_of(leg);

@@ -1,17 +1,15 @@
 //! Replies are taken.
 
-ghost use Rattle.std.specs.Prelude.{◌≡◌, ◌≤◌, ◌+◌, ◌||◌, ◌&&◌, not, None, Some, false, cond, is_some, IfOk, IfErr, IfSome, IfNone, option_and_then, option_map};
+ghost use Rattle.std.specs.Prelude.{◌≡◌, ◌≤◌, ◌+◌, ◌&&◌, not, None, Some, cond, is_some, IfSome, IfNone, option_and_then, option_map};
 ghost use Rattle.mcv_base.specs.Reply.{part_value};
 ghost use Rattle.mcv_world.specs.Moves.{is_move, Taken as WasTaken};
-ghost use Rattle.mcv_world.specs.World.{put, reply_of};
 ghost use Rattle.mcv_events.specs.Rows.{world_of};
 ghost use Rattle.mcv_core.specs.Calls.{calls_at};
-ghost use Rattle.mcv_core.specs.CoreView.{Moved, taken_view};
+ghost use Rattle.mcv_core.specs.Events.{IsEvent, IsTaken};
 ghost use Rattle.mcv_core.specs.Launching.{places_of};
 ghost use Rattle.mcv_core.specs.Rows.{taken_at};
 ghost use Rattle.mcv_core.specs.Taking.{AreKept, HasTaken, IsTakenAt, source_reply};
-ghost use Rattle.mcv_core.specs.KeptDeletes.{DeletesStayKept};
-ghost use Rattle.mcv_core.specs.View.{core_view, records_of};
+ghost use Rattle.mcv_core.specs.View.{core_view};
 ghost use Rattle.mcv_core.specs.declared.call.Call.{Call as Running};
 
 use crate::call::{Call, Recorded};
@@ -179,13 +177,7 @@ impl Counts {
 impl Dispatcher {
     /// Takes the reply to a call, once; None while the call has none.
     pub fn take(&mut self, call: CallId) -> Result<Option<Part>, CoreFault>
-        ensures records { records_of self.new ≡ records_of self.old }
-        ensures view { IfOk result (λ o. IfSome o (λ part. core_view self.new ≡ taken_view (core_view self.old) call.0)) }
-        ensures moves { IfOk result (λ o. IfSome o (λ part. Moved (core_view self.old) (core_view self.new) (WasTaken call.0))) }
-        ensures keeps { IfOk result (λ o. IfSome o (λ part. DeletesStayKept (core_view self.old) (core_view self.new) (Some (WasTaken call.0)))) }
-        ensures reply { IfOk result (λ o. IfSome o (λ part. option_and_then (reply_of (core_view self.old).routes) ((world_of (core_view self.old).rows).calls call.0) ≡ Some (part_value part))) }
-        ensures none { IfOk result (λ o. IfNone o ((core_view self.new ≡ core_view self.old) × (is_move (core_view self.old).routes (world_of (core_view self.old).rows) (WasTaken call.0) ≡ false))) }
-        ensures err { IfErr result (λ fault. (fault ≡ CoreFault.NoSuchCall) × (core_view self.new ≡ core_view self.old) × ((core_view self.old).rows.calls call.0 ≡ None)) }
+        ensures { IsEvent (IsTaken (core_view self.old) call result) (core_view self.new) }
     {
         let Some(taking) = self.calls.take(call.0) else {
             return Err(CoreFault::NoSuchCall);

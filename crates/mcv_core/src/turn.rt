@@ -1,12 +1,10 @@
 //! The clock, chapters and marks.
 
-ghost use Rattle.std.specs.Prelude.{◌≡◌, ◌+◌, ◌<◌, ◌≤◌, ◌^◌, ◌↔◌, Some, None, IfOk, IfErr, IfSome, OnOk, OnErr, IsTrue, length, option_map};
-ghost use Rattle.mcv_queues.specs.Marks.{checked_mark, no_mark};
-ghost use Rattle.mcv_route.specs.Eras.{breaks_of, era_at, since_at};
-ghost use Rattle.mcv_core.specs.CoreView.{Does, IsQuiet, Unmoved, with_mark};
-ghost use Rattle.mcv_core.specs.KeptDeletes.{DeletesStayKept};
-ghost use Rattle.mcv_core.specs.Chapters.{CanTurn, IsAtRest, era_move, in_era, spooled_legs};
-ghost use Rattle.mcv_core.specs.View.{core_view, records_of};
+ghost use Rattle.std.specs.Prelude.{◌≡◌, ◌↔◌, None, IfSome, IsTrue};
+ghost use Rattle.mcv_route.specs.Eras.{breaks_of, era_at};
+ghost use Rattle.mcv_core.specs.Chapters.{IsAtRest};
+ghost use Rattle.mcv_core.specs.Events.{IsClocked, IsEvent, IsMarked, IsTurned, IsUnmarked};
+ghost use Rattle.mcv_core.specs.View.{core_view};
 
 use crate::dispatcher::Dispatcher;
 use crate::fault::CoreFault;
@@ -36,14 +34,7 @@ impl Era {
 impl Dispatcher {
     /// Later calls have the era of this moment. Gives the era where it is another one.
     pub fn clock(&mut self, moment: Moment) -> Result<Option<Era>, CoreFault>
-        ensures view { OnOk result (core_view self.new ≡ record (in_era (core_view self.old) (since_at (breaks_of (core_view self.old).routes) moment.0)) { moment = moment.0 }) }
-        ensures does { IfOk result (λ era. Does (core_view self.old) (core_view self.new) (era_move era)) }
-        ensures keeps { IfOk result (λ era. DeletesStayKept (core_view self.old) (core_view self.new) (era_move era)) }
-        ensures other { IfOk result (λ era. IfSome era (λ e. (core_view self.new).rows.since ≡ (core_view self.old).rows.since → ⊥)) }
-        ensures records { records_of self.new ≡ records_of self.old }
-        ensures forward { OnOk result ((core_view self.old).moment ≤ moment.0) }
-        ensures back { IfErr result (λ fault. (fault ≡ CoreFault.ClockBack) × (moment.0 < (core_view self.old).moment)) }
-        ensures err { OnErr result (core_view self.new ≡ core_view self.old) }
+        ensures { IsEvent (IsClocked (core_view self.old) moment result) (core_view self.new) }
     {
         if moment.0 < self.moment.0 {
             return Err(CoreFault::ClockBack);
@@ -68,13 +59,7 @@ impl Dispatcher {
     /// A new chapter begins, where no call runs, no leg is queued and none is in replay. It has an entry for each leg in
     /// the spool.
     pub fn turn(&mut self) -> Result<(), CoreFault>
-        ensures view { OnOk result (core_view self.new ≡ record (core_view self.old) { chapter = (core_view self.old).chapter + 1; entries = spooled_legs (core_view self.old).rows }) }
-        ensures quiet { OnOk result (IsQuiet (core_view self.new)) }
-        ensures does { OnOk result (Unmoved (core_view self.old) (core_view self.new)) }
-        ensures keeps { OnOk result (DeletesStayKept (core_view self.old) (core_view self.new) None) }
-        ensures records { records_of self.new ≡ records_of self.old }
-        ensures busy { IfErr result (λ fault. (fault ≡ CoreFault.Busy) × (CanTurn (core_view self.old) → ⊥)) }
-        ensures err { OnErr result (core_view self.new ≡ core_view self.old) }
+        ensures { IsEvent (IsTurned (core_view self.old) result) (core_view self.new) }
     {
         if !self.is_at_rest() {
             return Err(CoreFault::Busy);
@@ -89,18 +74,14 @@ impl Dispatcher {
 
     /// Marks the server where three or more failures came in a row.
     pub fn mark(&mut self, server: ServerId)
-        ensures view { core_view self.new ≡ with_mark (core_view self.old) server.0 checked_mark }
-        ensures keeps { DeletesStayKept (core_view self.old) (core_view self.new) None }
-        ensures records { records_of self.new ≡ records_of self.old }
+        ensures { IsEvent (IsMarked (core_view self.old) server) (core_view self.new) }
     {
         self.marks.mark(server);
     }
 
     /// Takes the server's mark away, and its failures with it.
     pub fn unmark(&mut self, server: ServerId)
-        ensures view { core_view self.new ≡ with_mark (core_view self.old) server.0 (λ m. no_mark) }
-        ensures keeps { DeletesStayKept (core_view self.old) (core_view self.new) None }
-        ensures records { records_of self.new ≡ records_of self.old }
+        ensures { IsEvent (IsUnmarked (core_view self.old) server) (core_view self.new) }
     {
         self.marks.unmark(server);
     }

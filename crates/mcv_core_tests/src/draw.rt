@@ -46,10 +46,10 @@ const BUSY: &[u8] = b"bbbbbbbbbbnnnnnnnnnnnnaaaaaaaaallllsssssfffrrrmucTtttttt";
 const CALM: &[u8] = b"bbbnnnnnnnnnnaaaaaaaaaalllssssssfrrrmucTTTTTTtttttttttttt";
 
 /// The operations of calls.
-const OPS: &[u8] = b"ddddddggxs";
+const OPS: &[u8] = b"ddddddggxsi";
 
 /// What servers say: the first half fits the operation.
-const SAYINGS: &[u8] = b"yyyyynnnfffhgmsxe0dt";
+const SAYINGS: &[u8] = b"yyyyynnnfffhgmsxe0dtc";
 
 impl Dice {
     pub(crate) fn new(seed: u64) -> Dice {
@@ -112,6 +112,7 @@ impl Say {
             Op::Gets => Say::Hit(Some(5)),
             Op::Delete => Say::Short(FixedReply::Deleted),
             Op::Touch => Say::Short(FixedReply::Touched),
+            Op::Incr | Op::Decr => Say::Short(FixedReply::Number(6)),
             _ => Say::Short(FixedReply::Stored),
         }
     }
@@ -120,7 +121,7 @@ impl Say {
     fn not_done(op: Op) -> Say {
         match op {
             Op::Get | Op::Gets => Say::Short(FixedReply::Miss),
-            Op::Delete | Op::Touch => Say::Short(FixedReply::NotFound),
+            Op::Delete | Op::Touch | Op::Incr | Op::Decr => Say::Short(FixedReply::NotFound),
             _ => Say::Short(FixedReply::NotStored),
         }
     }
@@ -139,6 +140,7 @@ impl Say {
             b'0' => Say::Short(FixedReply::NotFound),
             b'd' => Say::Short(FixedReply::Deleted),
             b't' => Say::Short(FixedReply::NotStored),
+            b'c' => Say::Short(FixedReply::Number(7)),
             _ => Say::Fault,
         }
     }
@@ -149,6 +151,7 @@ fn drawn_op(dice: &mut Dice) -> Op {
         b'd' => Op::Delete,
         b'g' => Op::Get,
         b'x' => Op::Gets,
+        b'i' => Op::Incr,
         _ => Op::Set,
     }
 }

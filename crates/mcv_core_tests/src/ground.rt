@@ -19,7 +19,7 @@ pub(crate) struct Key {
     pub(crate) choice: Choice,
 }
 
-/// The servers that a get or gets of the key could be answered by, in one era.
+/// The servers that a get, gets, incr or decr of the key could be answered by, in one era.
 #[derive(Drop)]
 struct Readable {
     key: usize,
@@ -70,8 +70,9 @@ fn servers_of(
 ) -> Vec<ServerId> {
     let mut servers = Vec::new(rt.alloc());
     if let Some(route) = route_of(routes, key) {
-        push_readable(rt, route, Op::Get, key, since, &mut servers);
-        push_readable(rt, route, Op::Gets, key, since, &mut servers);
+        for op in [Op::Get, Op::Gets, Op::Incr, Op::Decr] {
+            push_readable(rt, route, op, key, since, &mut servers);
+        }
     }
     servers
 }

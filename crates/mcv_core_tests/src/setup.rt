@@ -30,7 +30,7 @@ pub(crate) const MOVING: &str =
 
 /// What the checker accepts of a configuration; None where it can lose a delete.
 pub(crate) fn accepted_of(rt: &(impl AllocGlobal + Abort), text: &str) -> Option<Arc<Accepted>> {
-    let judgement = judge_input(rt.alloc(), &mut text.as_bytes());
+    let judgement = judge_input(rt.alloc(), &mut text.as_bytes(), 0);
     match judgement.expect(rt, "a configuration") {
         Judgement::Covered { accepted, .. } => {
             Some(Arc::new(rt.alloc(), accepted).expect(rt, "memory"))
@@ -69,6 +69,7 @@ fn ask(rt: &(impl AllocGlobal + Abort), op: Op, key: &[u8]) -> Ask {
         exptime: 0,
         body: shared(rt, b""),
         cas: None,
+        delta: 0,
         noreply: false,
     }
 }

@@ -9,7 +9,7 @@ use Rattle.mcv_route.specs.declared.launch.Launch.{Launch}
 use Rattle.mcv_route.specs.Outcomes.{outcomes}
 use Rattle.mcv_route.specs.Routes.{RoutesValue}
 use Rattle.mcv_world.specs.World.{LegState, Performed, Spooled, Gone, Call, Leg, World, history_of, launched_by, is_settled, is_counted_delete, is_queued, is_spooled, put}
-use Rattle.mcv_world.specs.Moves.{Move, Answered, WasSpooled, WasRefused, WasPerformed, Taken, counted_as, is_error_reply, is_one, has_no_outcome, is_awaited, can_be_answered, can_be_spooled, can_be_refused, can_be_taken, is_move, queue, new_call, began, recorded_by, recorded_if, recorded_for, with_leg_state, answered_state, with_taken, with_leg, with_call, changed, after}
+use Rattle.mcv_world.specs.Moves.{Move, Answered, WasSpooled, WasRefused, WasPerformed, EraBegan, Taken, counted_as, is_error_reply, is_one, has_no_outcome, is_awaited, can_be_answered, can_be_spooled, can_be_refused, can_be_taken, is_move, queue, new_call, began, recorded_by, recorded_if, recorded_for, with_leg_state, answered_state, with_taken, with_leg, with_call, changed, after}
 use Rattle.mcv_world.specs.LiveWorld.{has_ended, running, live_in, live_leg, live_of}
 use Rattle.mcv_events.specs.Entries.{IsLaidOut, is_launched}
 use Rattle.mcv_events.specs.Rows.{State, Sent, Held, InSpool, LegRow, CallRow, Rows, leg_state, leg_of, world_of, is_unanswered, IsCallRow, IsCore, queued_rows, recorded_rows, with_leg_row, CanRecord}
@@ -245,10 +245,14 @@ performed_moves r w n s i at spooled =
       core = core_dropped r w n i;
     }
 
+-- the era is none of what holds of a core's rows
+pub era_keeps_core : (r : RoutesValue) (w : Rows) (since : Option ℕ) → IsCore r w → IsCore r (record w { since = since })
+era_keeps_core r w since i = record { calls_below = i.calls_below; legs_below = i.legs_below; call = i.call; own = i.own; awaited = i.awaited; counted = i.counted; owner = i.owner }
+
 pub era_moves : EraMoves
-era_moves r w since i =
-    let core : IsCore r (record w { since = since }) = record { calls_below = i.calls_below; legs_below = i.legs_below; call = i.call; own = i.own; awaited = i.awaited; counted = i.counted; owner = i.owner } in
-    record { is = refl; moves = world_of_is_live r (record w { since = since }) core; core = core }
+era_moves r w since i other =
+    let core = era_keeps_core r w since i in
+    record { is = other; moves = world_of_is_live r (record w { since = since }) core ∙ moved r (world_of w) (EraBegan since) other; core = core }
 
 -- ---- a reply is taken
 

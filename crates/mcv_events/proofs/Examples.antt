@@ -30,6 +30,7 @@ routes = record {
   servers = [] ∷ [] ∷ [];
   symbols = record { func = Ch3; salt = []; n = 1 } ∷ [];
   entries = record { aliases = []; tree = many Failover (child (server 5) (child (server 7) none)) } ∷ [];
+  window = 0;
 }
 
 -- ---- a delete: its entries are both legs, and it launches the first one when it begins

@@ -6,7 +6,7 @@ use Rattle.mcv_base.specs.Reply.{ReplyValue, not_found, fixed_value}
 use Rattle.mcv_route.specs.declared.launch.Launch.{Launch}
 use Rattle.mcv_route.specs.Routes.{RoutesValue}
 use Rattle.mcv_world.specs.World.{Call, reply_of, is_counted_delete, put}
-use Rattle.mcv_world.specs.Moves.{Move, Began, Answered, WasSpooled, WasRefused, WasPerformed, EraBegan, Taken, counted_as, is_error_reply, has_no_outcome, is_move, new_call, with_taken, after}
+use Rattle.mcv_world.specs.Moves.{Move, Began, Answered, WasSpooled, WasRefused, WasPerformed, EraBegan, Taken, counted_as, is_error_reply, has_no_outcome, is_move, is_other_era, new_call, with_taken, after}
 use Rattle.mcv_world.specs.LiveWorld.{has_ended, live_of}
 use Rattle.mcv_events.specs.Entries.{IsLaidOut, is_launched}
 use Rattle.mcv_events.specs.Rows.{State, Sent, Held, InSpool, LegRow, CallRow, Rows, leg_state, leg_of, world_of, is_unanswered, IsCore, numbered, queued_rows, recorded_rows, with_leg_row}
@@ -86,8 +86,9 @@ RefusedMoves =
 abbrev pub PerformedMoves : Type 0
 PerformedMoves = (r : RoutesValue) (w : Rows) (n : ℕ) (s : LegRow) → IsCore r w → w.legs n ≡ Some s → s.state ≡ InSpool → Moves r w (with_leg_row w n None) (WasPerformed n)
 
+-- another era begins
 abbrev pub EraMoves : Type 0
-EraMoves = (r : RoutesValue) (w : Rows) (since : Option ℕ) → IsCore r w → Moves r w (record w { since = since }) (EraBegan since)
+EraMoves = (r : RoutesValue) (w : Rows) (since : Option ℕ) → IsCore r w → is_other_era w.since since ≡ true → Moves r w (record w { since = since }) (EraBegan since)
 
 abbrev pub TakenMoves : Type 0
 TakenMoves =

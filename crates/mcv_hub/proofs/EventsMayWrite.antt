@@ -1,45 +1,50 @@
 -- What a core may still write, after each event.
 use Rattle.std.proofs.Common.{◌≡◌, ◌∙◌, ◌&&◌, not, cond, ℕ, zero, suc, ◌+◌, ◌*◌, ◌<◌, ◌≤◌, Bool, true, false, nat_eq, List, length, Option, Some, None, Result, Ok, Err, option_map, refl, sym, ap, subst, arith, true≢false}
-use Rattle.std.specs.Prelude.{IfErr, IfNone, IfOk, IfSome, OnOk, ⊤, slice_get}
+use Rattle.std.specs.Prelude.{IfOk, ⊤, slice_get}
 use Rattle.std.proofs.lemmas.Bool.{and_parts}
 use Rattle.mcv_base.specs.declared.reply.FixedReply.TheVariants.{Lost}
 use Rattle.mcv_base.specs.Reply.{ReplyValue, fixed_value, not_found}
 use Rattle.mcv_base.specs.declared.reply.Part.{Part}
 use Rattle.mcv_base.specs.declared.request.CallId.{CallId}
 use Rattle.mcv_base.specs.declared.request.LegId.{LegId}
+use Rattle.mcv_base.specs.declared.request.Moment.{Moment}
 use Rattle.mcv_base.specs.declared.request.Request.{Request}
-use Rattle.mcv_pools.specs.declared.hash.Fnv.{Fnv}
+use Rattle.mcv_base.specs.declared.request.ServerId.{ServerId}
 use Rattle.mcv_pools.specs.Symbol.{SymbolValue}
 use Rattle.mcv_queues.specs.declared.marks.ServerFailures.{ServerFailures}
-use Rattle.mcv_queues.specs.Marks.{answered_mark, lost_mark}
+use Rattle.mcv_queues.specs.Marks.{answered_mark, checked_mark, lost_mark, no_mark}
 use Rattle.mcv_queues.specs.Numbers.{IsLeast}
 use Rattle.mcv_route.specs.Eras.{breaks_of, since_at}
 use Rattle.mcv_route.specs.Routes.{RoutesValue}
 use Rattle.mcv_spool.specs.declared.record.SpoolRecord.{SpoolRecord}
-use Rattle.mcv_world.specs.World.{Spooled, is_counted_delete, put}
-use Rattle.mcv_world.specs.Moves.{Taken, can_be_taken, counted_as, is_error_reply, is_move, is_one, new_call}
+use Rattle.mcv_spool.specs.declared.record.Stored.{Stored}
+use Rattle.mcv_world.specs.World.{Call, Spooled, is_counted_delete, put}
+use Rattle.mcv_world.specs.Moves.{Move, Taken, can_be_taken, counted_as, is_error_reply, is_move, is_one, new_call}
 use Rattle.mcv_world.proofs.Numbers.{no_some}
 use Rattle.mcv_events.specs.Events.{in_state, refused_rows}
 use Rattle.mcv_events.specs.Rows as rows
 use Rattle.mcv_events.specs.Rows.{CallRow, IsCore, LegRow, Rows, awaits, leg_of, leg_state, with_leg_row, world_of}
 use Rattle.mcv_events.specs.Runs.{OpenedRecord, opened, spooled_row}
 use Rattle.mcv_events.specs.Sums.{sum_below}
-use Rattle.mcv_core.specs.Asking.{HasBegunFor}
+use Rattle.mcv_core.specs.Beginning.{begun}
+use Rattle.mcv_core.specs.PlannedLegs.{legs_of_call}
+use Rattle.mcv_core.proofs.Chapters.{answer_chapter, loss_chapter, refusing_chapter, spooling_chapter}
 use Rattle.mcv_core.proofs.Dispatchers.{view_has_era, view_is_core}
-use Rattle.mcv_core.specs.CoreView.{CoreView, Moved, Effect, HasEffect, IsQuiet, answer_at, answer_in, at_row, does, finished, flies, held, in_row_state, is_record, is_waiting, loss_at, loss_in, refused, refuses, refusing_at, refusing_in, replayed_in, sent_in, spooling_at, spooling_in, step_to, stores, taken_view, taken_row, waits_in, with_mark}
+use Rattle.mcv_core.proofs.EventsLead.{Leads, begun_leads, clock_leads, effect_same, leg_leads, move_leads, next_leads, replay_leads, take_leads}
+use Rattle.mcv_core.specs.CoreView.{CoreView, Effect, HasEffect, IsQuiet, answer_at, answer_in, at_row, change_move, does, finished, flies, held, in_row_state, is_record, is_waiting, loss_at, loss_in, refused, refuses, refusing_at, refusing_in, replayed_in, sent_in, spooling_at, spooling_in, step_to, stores, taken_view, taken_row, waits_in, with_mark}
+use Rattle.mcv_core.specs.Events.{Happens, IsAnsweredLeg, IsBegun, IsClocked, IsLostLeg, IsMarked, IsNext, IsRefusedLeg, IsReplay, IsSpooledLeg, IsTaken, IsUnmarked, SetsClock}
 use Rattle.mcv_core.specs.Opening.{known_records, opened_view}
 use Rattle.mcv_core.specs.Soundness.{spooled_in, spooled_one}
-use Rattle.mcv_core.specs.Chapters.{in_era, spooled_legs}
+use Rattle.mcv_core.specs.Chapters.{era_move, in_era, spooled_legs, turned}
 use Rattle.mcv_core.specs.View.{core_view}
 use Rattle.mcv_core.specs.declared.dispatcher.Dispatcher.{Dispatcher}
-use Rattle.mcv_core.specs.declared.engine.Core.{Core}
 use Rattle.mcv_core.specs.declared.fault.CoreFault.{CoreFault}
-use Rattle.mcv_core.specs.declared.fault.CoreFault.TheVariants.{NoSuchCall}
+use Rattle.mcv_core.specs.declared.step.Change.{Change}
 use Rattle.mcv_core.specs.declared.step.Change.TheVariants as changes
 use Rattle.mcv_core.specs.declared.step.LegState.TheVariants as leg_states
 use Rattle.mcv_core.specs.declared.step.Step.{Step}
 use Rattle.mcv_core.specs.declared.turn.Era.{Era}
-use Rattle.mcv_hub.specs.History.{entries_in, era_entry}
+use Rattle.mcv_hub.specs.History.{written}
 use Rattle.mcv_hub.specs.RemainingEntries.{break_count, breaks_left, call_may_write, leg_may_write, leg_may_write_in, may_write, rows_may_write, written_by}
 use Rattle.mcv_hub.proofs.BreaksLeft.{all_breaks, no_more_breaks, one_break_less}
 use Rattle.mcv_hub.proofs.RowsMayWrite.{beginning_writes, call_below, leg_below, leg_changes, recording_for_writes, refusing_writes, taking_writes}
@@ -128,8 +133,8 @@ module _ (v : CoreView) (i : IsCore v.routes v.rows) (n : ℕ) (s : LegRow) (at 
       let t = leg_changes v.routes v.rows n s None low at in
       by_test v failed _ _ (by_rows v _ 0 refl refl (omega arith)) (by_rows v _ 1 refl refl (omega (arith, t, weighs rows.InSpool is)))
 
-  stores_writes : s.state ≡ rows.Held → WritesAfter v (stores v n s)
-  stores_writes is =
+  stores_writes : (seq : ℕ) → s.state ≡ rows.Held → WritesAfter v (stores v n seq s)
+  stores_writes seq is =
       let t = leg_changes v.routes v.rows n s (Some (in_state s rows.InSpool)) low at in
       let o = recording_for_writes v.routes (with_leg_row v.rows n (Some (in_state s rows.InSpool))) s not_found s.call i.calls_below in
       by_rows v _ 1 refl refl (omega (arith, t, o, weighs rows.Held is))
@@ -154,11 +159,11 @@ module _ (v : CoreView) (i : IsCore v.routes v.rows) (n : ℕ) (s : LegRow) (at 
   loss_writes_in rows.Held is = tt
   loss_writes_in rows.InSpool is = by_test v (flies v n s) _ _ (replayed_writes lost_mark true is) tt
 
-  spooling_writes_in : (its : Bool) (t : rows.State) → s.state ≡ t → WritesAfter v (spooling_in v n its s t)
-  spooling_writes_in its rows.Waiting is = tt
-  spooling_writes_in its rows.Sent is = tt
-  spooling_writes_in its rows.Held is = by_test v its _ _ (stores_writes is) tt
-  spooling_writes_in its rows.InSpool is = tt
+  spooling_writes_in : (seq : ℕ) (its : Bool) (t : rows.State) → s.state ≡ t → WritesAfter v (spooling_in v n seq its s t)
+  spooling_writes_in seq its rows.Waiting is = tt
+  spooling_writes_in seq its rows.Sent is = tt
+  spooling_writes_in seq its rows.Held is = by_test v its _ _ (stores_writes seq is) tt
+  spooling_writes_in seq its rows.InSpool is = tt
 
   refusing_writes_in : (t : rows.State) → s.state ≡ t → WritesAfter v (refusing_in v n s t)
   refusing_writes_in rows.Waiting is = tt
@@ -180,21 +185,20 @@ module _ (v w : CoreView) (i : IsCore v.routes v.rows) (n : ℕ) (result : Resul
   pub loss_writes : HasEffect (loss_at v n) v w result → IfOk result (λ step. may_write w + written_by step.change ≤ may_write v)
   loss_writes h = by_effect v w (loss_at v n) result (by_row v (λ s. loss_in v n s s.state) n (λ s at. loss_writes_in v i n s at s.state refl)) h
 
-  pub spooling_writes : (text rest : List ℕ) → HasEffect (spooling_at v n text rest) v w result → IfOk result (λ step. may_write w + written_by step.change ≤ may_write v)
-  spooling_writes text rest h = by_effect v w (spooling_at v n text rest) result (by_row v (λ s. spooling_in v n (is_record v n text rest s) s s.state) n (λ s at. spooling_writes_in v i n s at (is_record v n text rest s) s.state refl)) h
+  pub spooling_writes : (seq : ℕ) (text rest : List ℕ) → HasEffect (spooling_at v n seq text rest) v w result → IfOk result (λ step. may_write w + written_by step.change ≤ may_write v)
+  spooling_writes seq text rest h = by_effect v w (spooling_at v n seq text rest) result (by_row v (λ s. spooling_in v n seq (is_record v n text rest s) s s.state) n (λ s at. spooling_writes_in v i n s at seq (is_record v n text rest s) s.state refl)) h
 
   pub refusal_writes : HasEffect (refusing_at v n) v w result → IfOk result (λ step. may_write w + written_by step.change ≤ may_write v)
   refusal_writes h = by_effect v w (refusing_at v n) result (by_row v (λ s. refusing_in v n s s.state) n (λ s at. refusing_writes_in v i n s at s.state refl)) h
 
 -- ---- calls
 
-pub begin_writes : (v w : CoreView) (chosen : SymbolValue → List ℕ → ℕ) (request : Request) (key : ℕ) → HasBegunFor v chosen request key w → may_write w + 1 + v.entries ≤ may_write v + w.entries
+pub begin_writes : (v w : CoreView) (call : Call) → call.taken ≡ false → w ≡ begun v call → may_write w + 1 + v.entries ≤ may_write v + w.entries
 unfolding may_write
-begin_writes v w chosen request key g =
-    let h = g.view in
-    let o = beginning_writes v.routes v.rows (new_call (world_of v.rows) g.op g.route g.rest g.choice) h.entries refl in
-    let e : w.entries ≡ v.entries + (2 + 3 * length h.entries) = ap (λ z. z.entries) h.view in
-    omega (arith, o, e, ap may_write h.view)
+begin_writes v w call new is =
+    let o = beginning_writes v.routes v.rows call (legs_of_call v.routes call) new in
+    let e : w.entries ≡ v.entries + (2 + 3 * length (legs_of_call v.routes call)) = ap (λ z. z.entries) is in
+    omega (arith, o, e, ap may_write is)
 
 not_is_false : (b : Bool) → not b ≡ true → b ≡ false
 not_is_false true e = absurd (true≢false (sym e))
@@ -278,56 +282,127 @@ open_writes w r records e =
     let n : w.entries ≡ length known = ap (λ z. z.entries) e in
     omega (arith, o, b, n, ap may_write e)
 
--- ---- what the core's events say, put together
+-- ---- each event
 
-if_ok : {A E : Type 0} (r : Result A E) (P Q : A → Type 0) → ((a : A) → P a → Q a) → IfOk r P → IfOk r Q
-if_ok (Ok a) P Q f h = f a h
-if_ok (Err e) P Q f h = tt
+pub moved_written : (n : ℕ) (x : ReplyValue) (change : Change) → written (change_move n x change) ≡ written_by change
+moved_written n x changes.Nothing = refl
+moved_written n x changes.Answered = refl
+moved_written n x changes.Spooled = refl
+moved_written n x changes.Refused = refl
+moved_written n x changes.Performed = refl
 
-pub opens_writing : (r : RoutesValue) (records : List (ℕ × SpoolRecord)) (result : Result (Core Fnv) CoreFault) → IfOk result (λ core. core_view core.dispatcher ≡ opened_view r records)
-    → IfOk result (λ core. may_write (core_view core.dispatcher) ≤ (core_view core.dispatcher).entries + break_count r)
-opens_writing r records result = if_ok result _ _ (λ core e. open_writes (core_view core.dispatcher) r records e)
+-- it is its move, of the same chapter, and fewer entries may be written by those that it writes
+pub record Goes (v w : CoreView) (m : Option Move) : Type 0 where
+  pub leads : Leads v w m
+  pub chapter : w.chapter ≡ v.chapter
+  pub spent : may_write w + written m ≤ may_write v
 
-pub begins_writing : (v w : CoreView) (chosen : SymbolValue → List ℕ → ℕ) (request : Request) (key : ℕ) (result : Result CallId CoreFault) → IfOk result (λ call. HasBegunFor v chosen request key w) → OnOk result (may_write w + 1 + v.entries ≤ may_write v + w.entries)
-begins_writing v w chosen request key result = if_ok result _ _ (λ call g. begin_writes v w chosen request key g)
+-- a call begins: its entries were not to be written before
+pub record GoesOn (v w : CoreView) (m : Option Move) : Type 0 where
+  pub leads : Leads v w m
+  pub chapter : w.chapter ≡ v.chapter
+  pub within : v.entries ≤ w.entries
+  pub limit : w.entries ≤ 1000000
+  pub spent : may_write w + written m + v.entries ≤ may_write v + w.entries
 
-module _ (d : Dispatcher) (w : CoreView) where
+none_goes : (v w : CoreView) (m : Option Move) → m ≡ None → Leads v w m → w.chapter ≡ v.chapter → may_write w ≤ may_write v → Goes v w m
+none_goes v w m none leads chapter less = record { leads = leads; chapter = chapter; spent = subst (λ k. may_write w + written k ≤ may_write v) (sym none) (omega (arith, less)) }
+
+-- it is refused
+same_goes : (v w : CoreView) (m : Option Move) → m ≡ None → w ≡ v → Leads v w m → Goes v w m
+same_goes v w m none same leads = none_goes v w m none leads (ap (λ z. z.chapter) same) (may_write_same v w same)
+
+pub begun_goes : (d : Dispatcher) (w : CoreView) (chosen : SymbolValue → List ℕ → ℕ) (request : Request) (key : ℕ) (call : CallId) (m : Option Move) → IsBegun (core_view d) chosen request key (Ok call) m w → GoesOn (core_view d) w m
+begun_goes d w chosen request key call m h =
+    let v : CoreView = core_view d in
+    let new : Call = new_call (world_of v.rows) h.op h.route h.rest h.choice in
+    let e : w.entries ≡ v.entries + (2 + 3 * length (legs_of_call v.routes new)) = ap (λ z. z.entries) h.begun.view in
+    let fits = h.begun.history_fits in
+    let less = begin_writes v w new refl h.begun.view in
+    record {
+      leads = begun_leads v chosen request key (Ok call) m w h;
+      chapter = ap (λ z. z.chapter) h.begun.view;
+      within = omega (arith, e);
+      limit = omega (arith, e, fits);
+      spent = subst (λ k. may_write w + written k + v.entries ≤ may_write v + w.entries) (sym h.move) less;
+    }
+
+pub unbegun_goes : (d : Dispatcher) (w : CoreView) (chosen : SymbolValue → List ℕ → ℕ) (request : Request) (key : ℕ) (fault : CoreFault) (m : Option Move) → IsBegun (core_view d) chosen request key (Err fault) m w → Goes (core_view d) w m
+unbegun_goes d w chosen request key fault m h = same_goes (core_view d) w m h.none h.same (begun_leads (core_view d) chosen request key (Err fault) m w h)
+
+pub next_goes : (d : Dispatcher) (w : CoreView) (server : ServerId) (r : Result LegId CoreFault) (m : Option Move) → IsNext (core_view d) server r m w → Goes (core_view d) w m
+next_goes d w server (Ok leg) m h =
+    none_goes (core_view d) w m h.none (next_leads (core_view d) server (Ok leg) m w h) (ap (λ z. z.chapter) h.view)
+    (next_writes (core_view d) w leg.0 server.0 (put (core_view d).flights server.0 (Some leg.0)) (view_is_core d) h.first h.view)
+next_goes d w server (Err fault) m h = same_goes (core_view d) w m h.none h.same (next_leads (core_view d) server (Err fault) m w h)
+
+pub replay_goes : (d : Dispatcher) (w : CoreView) (server : ServerId) (r : Result LegId CoreFault) (m : Option Move) → IsReplay (core_view d) server r m w → Goes (core_view d) w m
+replay_goes d w server (Ok leg) m h =
+    none_goes (core_view d) w m h.none (replay_leads (core_view d) server (Ok leg) m w h) (ap (λ z. z.chapter) h.view) (flight_writes (core_view d) w (put (core_view d).flights server.0 (Some leg.0)) h.view)
+replay_goes d w server (Err fault) m h = same_goes (core_view d) w m h.none h.same (replay_leads (core_view d) server (Err fault) m w h)
+
+module _ (e : Effect) (leg : LegId) (x : ReplyValue) (v : CoreView) where
+  leg_goes : (r : Result Step CoreFault) (m : Option Move) (w : CoreView) → Happens e leg x v r m w → w.chapter ≡ v.chapter → IfOk r (λ step. may_write w + written_by step.change ≤ may_write v) → Goes v w m
+  leg_goes (Ok step) m w h chapter less = record {
+    leads = leg_leads e leg x v (Ok step) m w h;
+    chapter = chapter;
+    spent = subst (λ k. may_write w + written k ≤ may_write v) (sym h.move) (subst (λ k. may_write w + k ≤ may_write v) (sym (moved_written leg.0 x step.change)) less);
+  }
+  leg_goes (Err fault) m w h chapter less = same_goes v w m h.move (effect_same e v w fault h.effect) (leg_leads e leg x v (Err fault) m w h)
+
+module _ (d : Dispatcher) (w : CoreView) (leg : LegId) (r : Result Step CoreFault) (m : Option Move) where
   abbrev v : CoreView
   v = core_view d
 
-  pub sends_writing : (server : ℕ) (result : Result LegId CoreFault) → IfOk result (λ leg. IsLeast (λ n. is_waiting server (v.rows.legs n)) (Some leg.0))
-      → IfOk result (λ leg. w ≡ record v { rows = in_row_state v.rows leg.0 rows.Sent; flights = put v.flights server (Some leg.0) }) → OnOk result (may_write w ≤ may_write v)
-  sends_writing server (Ok leg) first e = next_writes v w leg.0 server (put v.flights server (Some leg.0)) (view_is_core d) first e
-  sends_writing server (Err fault) first e = tt
+  pub answer_goes : (x : ReplyValue) → IsAnsweredLeg v leg x r m w → Goes v w m
+  answer_goes x h = leg_goes (answer_at v leg.0 x) leg x v r m w h (answer_chapter v w leg.0 r x h.effect) (answer_writes v w (view_is_core d) leg.0 r x h.effect)
 
-  pub replays_writing : (server : ℕ) (result : Result LegId CoreFault) → IfOk result (λ leg. w ≡ record v { flights = put v.flights server (Some leg.0) }) → OnOk result (may_write w ≤ may_write v)
-  replays_writing server result = if_ok result _ _ (λ leg e. flight_writes v w (put v.flights server (Some leg.0)) e)
+  pub loss_goes : IsLostLeg v leg r m w → Goes v w m
+  loss_goes h = leg_goes (loss_at v leg.0) leg (fixed_value Lost) v r m w h (loss_chapter v w leg.0 r h.effect) (loss_writes v w (view_is_core d) leg.0 r h.effect)
 
-  pub clocks_writing : (moment : ℕ) (result : Result (Option Era) CoreFault) → OnOk result (w ≡ record (in_era v (since_at (breaks_of v.routes) moment)) { moment = moment }) → OnOk result (v.moment ≤ moment)
-      → IfOk result (λ era. IfSome era (λ e. w.rows.since ≡ v.rows.since → ⊥)) → IfOk result (λ era. may_write w + entries_in (era_entry era) ≤ may_write v)
-  clocks_writing moment (Err fault) e forward other = tt
-  clocks_writing moment (Ok None) e forward other = let o = clock_writes_same v w moment (since_at (breaks_of v.routes) moment) forward e in omega (arith, o)
-  clocks_writing moment (Ok (Some era)) e forward other =
-      clock_writes_less v w moment (since_at (breaks_of v.routes) moment) forward e (λ same. other (ap (λ z. z.rows.since) e ∙ sym same ∙ sym (view_has_era d)))
+  pub spooling_goes : (stored : Stored) → IsSpooledLeg v leg stored r m w → Goes v w m
+  spooling_goes stored h =
+      leg_goes (spooling_at v leg.0 stored.seq stored.«record».server stored.«record».rest) leg not_found v r m w h (spooling_chapter v w leg.0 r stored.seq stored.«record».server stored.«record».rest h.effect)
+      (spooling_writes v w (view_is_core d) leg.0 r stored.seq stored.«record».server stored.«record».rest h.effect)
 
-  pub turns_writing : (result : Result (Unit {0}) CoreFault) → OnOk result (w ≡ record v { chapter = v.chapter + 1; entries = spooled_legs v.rows }) → OnOk result (may_write w ≤ may_write v)
-  turns_writing result = if_ok result _ _ (λ u e. turn_writes v w (v.chapter + 1) (spooled_legs v.rows) e)
+  pub refusal_goes : IsRefusedLeg v leg r m w → Goes v w m
+  refusal_goes h = leg_goes (refusing_at v leg.0) leg (fixed_value Lost) v r m w h (refusing_chapter v w leg.0 r h.effect) (refusal_writes v w (view_is_core d) leg.0 r h.effect)
 
-  pub turns_opening : (result : Result (Unit {0}) CoreFault) → OnOk result (w ≡ record v { chapter = v.chapter + 1; entries = spooled_legs v.rows }) → OnOk result (IsQuiet w) → OnOk result (may_write w ≤ w.entries + break_count w.routes)
-  turns_opening (Ok u) e q = quiet_writes v w (v.chapter + 1) q e
-  turns_opening (Err fault) e q = tt
+pub marked_goes : (d : Dispatcher) (w : CoreView) (server : ServerId) (m : Option Move) → IsMarked (core_view d) server m w → Goes (core_view d) w m
+marked_goes d w server m h = none_goes (core_view d) w m h.none (move_leads (core_view d) w m None h.none h.does) (ap (λ z. z.chapter) h.view) (mark_writes (core_view d) w server.0 checked_mark h.view)
 
-  pub takes_writing : (call : ℕ) (result : Result (Option Part) CoreFault) → IfOk result (λ o. IfSome o (λ part. w ≡ taken_view v call)) → IfOk result (λ o. IfSome o (λ part. Moved v w (Taken call))) → IfOk result (λ o. IfSome o (λ part. may_write w + 1 ≤ may_write v))
-  takes_writing call (Ok (Some part)) e m = take_writes v w call (view_is_core d) m.moves.is e
-  takes_writing call (Ok None) e m = tt
-  takes_writing call (Err fault) e m = tt
+pub unmarked_goes : (d : Dispatcher) (w : CoreView) (server : ServerId) (m : Option Move) → IsUnmarked (core_view d) server m w → Goes (core_view d) w m
+unmarked_goes d w server m h = none_goes (core_view d) w m h.none (move_leads (core_view d) w m None h.none h.does) (ap (λ z. z.chapter) h.view) (mark_writes (core_view d) w server.0 (λ mark. no_mark) h.view)
 
-  same_chapter : (call : ℕ) (o : Option CallRow) → (taken_row v call o).chapter ≡ v.chapter
-  same_chapter call None = refl
-  same_chapter call (Some c) = refl
+clock_spends : (d : Dispatcher) (w : CoreView) (moment : Moment) (era : Option Era) (m : Option Move) → SetsClock (core_view d) moment era m w → may_write w + written (era_move era) ≤ may_write (core_view d)
+clock_spends d w moment None m h = let o = clock_writes_same (core_view d) w moment.0 (since_at (breaks_of (core_view d).routes) moment.0) h.forward h.view in omega (arith, o)
+clock_spends d w moment (Some era) m h =
+    clock_writes_less (core_view d) w moment.0 (since_at (breaks_of (core_view d).routes) moment.0) h.forward h.view (λ same. h.era_is.1 (ap (λ z. z.rows.since) h.view ∙ sym same ∙ sym (view_has_era d)))
 
-  pub takes_staying : (call : ℕ) (result : Result (Option Part) CoreFault) → IfOk result (λ o. IfSome o (λ part. w ≡ taken_view v call)) → IfOk result (λ o. IfNone o ((w ≡ v) × (is_move v.routes (world_of v.rows) (Taken call) ≡ false)))
-      → IfErr result (λ fault. (fault ≡ NoSuchCall) × (w ≡ v) × (v.rows.calls call ≡ None)) → w.chapter ≡ v.chapter
-  takes_staying call (Ok (Some part)) e none err = ap (λ z. z.chapter) e ∙ same_chapter call (v.rows.calls call)
-  takes_staying call (Ok None) e none err = ap (λ z. z.chapter) none.0
-  takes_staying call (Err fault) e none err = ap (λ z. z.chapter) err.1
+pub clock_goes : (d : Dispatcher) (w : CoreView) (moment : Moment) (r : Result (Option Era) CoreFault) (m : Option Move) → IsClocked (core_view d) moment r m w → Goes (core_view d) w m
+clock_goes d w moment (Ok era) m h = record {
+  leads = clock_leads (core_view d) moment (Ok era) m w h;
+  chapter = ap (λ z. z.chapter) h.view;
+  spent = subst (λ k. may_write w + written k ≤ may_write (core_view d)) (sym h.move) (clock_spends d w moment era m h);
+}
+clock_goes d w moment (Err fault) m h = same_goes (core_view d) w m h.none h.same (clock_leads (core_view d) moment (Err fault) m w h)
+
+same_chapter : (v : CoreView) (call : ℕ) (o : Option CallRow) → (taken_row v call o).chapter ≡ v.chapter
+same_chapter v call None = refl
+same_chapter v call (Some c) = refl
+
+pub take_goes : (d : Dispatcher) (w : CoreView) (call : CallId) (r : Result (Option Part) CoreFault) (m : Option Move) → IsTaken (core_view d) call r m w → Goes (core_view d) w m
+take_goes d w call (Ok (Some part)) m h = record {
+  leads = take_leads (core_view d) call (Ok (Some part)) m w h;
+  chapter = ap (λ z. z.chapter) h.view ∙ same_chapter (core_view d) call.0 ((core_view d).rows.calls call.0);
+  spent = subst (λ k. may_write w + written k ≤ may_write (core_view d)) (sym h.move) (take_writes (core_view d) w call.0 (view_is_core d) h.does.moves.is h.view);
+}
+take_goes d w call (Ok None) m h = same_goes (core_view d) w m h.none h.same (take_leads (core_view d) call (Ok None) m w h)
+take_goes d w call (Err fault) m h = same_goes (core_view d) w m h.none h.same (take_leads (core_view d) call (Err fault) m w h)
+
+-- a chapter begins
+pub turn_spends : (v w : CoreView) → w ≡ turned v → may_write w ≤ may_write v
+turn_spends v w e = turn_writes v w (v.chapter + 1) (spooled_legs v.rows) e
+
+pub turn_opens : (v w : CoreView) → IsQuiet w → w ≡ turned v → may_write w ≤ w.entries + break_count w.routes
+turn_opens v w q e = quiet_writes v w (v.chapter + 1) q e

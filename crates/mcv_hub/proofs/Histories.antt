@@ -1,5 +1,5 @@
 -- Histories that are one entry longer, and what holds of each.
-use Rattle.std.proofs.Common.{◌≡◌, ◌∙◌, ◌⊎◌, inl, inr, ℕ, ◌+◌, ◌<◌, ◌≤◌, ◌^◌, Bool, true, false, List, [], ◌∷◌, ◌++◌, Option, Some, None, Ok, Err, count_by, cond, refl, ap, sym, subst, arith}
+use Rattle.std.proofs.Common.{◌≡◌, ◌∙◌, ◌⊎◌, inl, inr, ℕ, ◌+◌, ◌<◌, ◌≤◌, ◌^◌, Bool, true, false, List, [], ◌∷◌, ◌++◌, Option, Some, None, Result, Ok, Err, count_by, cond, refl, ap, sym, subst, arith}
 use Rattle.std.specs.Prelude.{option_and_then, option_map, slice_get}
 use Rattle.std.specs.Arc.{arc_value}
 use Rattle.std.specs.declared.alloc.Global.{Global}
@@ -9,8 +9,11 @@ use Rattle.mcv_base.specs.Reply.{ReplyValue, part_value}
 use Rattle.mcv_base.specs.declared.reply.Part.{Part}
 use Rattle.mcv_base.specs.declared.request.CallId.{CallId}
 use Rattle.mcv_base.specs.declared.request.LegId.{LegId}
+use Rattle.mcv_base.specs.declared.request.Moment.{Moment}
 use Rattle.mcv_base.specs.declared.request.Request.{Request}
+use Rattle.mcv_base.specs.declared.request.ServerId.{ServerId}
 use Rattle.mcv_pools.specs.Hash.{fnv_index}
+use Rattle.mcv_pools.specs.Symbol.{SymbolValue}
 use Rattle.mcv_route.specs.Routes.{RoutesValue}
 use Rattle.mcv_symbolic.specs.CoveredRoutes.{AreCovered}
 use Rattle.mcv_world.proofs.Choices.{moments_have_eras}
@@ -18,7 +21,7 @@ use Rattle.mcv_world.proofs.Numbers.{no_some, same_some}
 use Rattle.mcv_route.specs.Eras.{breaks_of, since_at}
 use Rattle.mcv_spool.specs.declared.record.SpoolRecord.{SpoolRecord}
 use Rattle.mcv_world.specs.World.{Call, World, reply_of}
-use Rattle.mcv_world.specs.Moves.{Move, Began, Answered as answered_move, Taken as taken_move, is_move, after, run}
+use Rattle.mcv_world.specs.Moves.{Move, Answered as answered_move, Began, Taken as taken_move, is_move, after, run}
 use Rattle.mcv_world.specs.LiveWorld.{has_ended, running, live_of}
 use Rattle.mcv_world.specs.PossibleMoves.{IsPossible, ArePossible}
 use Rattle.mcv_world.specs.Laws.{HasReply, IsWorld}
@@ -29,20 +32,26 @@ use Rattle.mcv_events.specs.Rows.{InSpool, LegRow, world_of}
 use Rattle.mcv_events.specs.Runs.{OpenedRecord, opened, spooled_row}
 use Rattle.mcv_events.proofs.CoresKeepDeletes.{opened_is_core, spooled_rows_open}
 use Rattle.mcv_core.specs.Opening.{known_records, opened_view}
-use Rattle.mcv_core.specs.Asking.{HasBegunFor}
-use Rattle.mcv_core.specs.CoreView.{CoreView, Effect, HasEffect, Moved, Unmoved, Does, IsQuiet, change_move}
+use Rattle.mcv_core.specs.CoreView.{CoreView, Moved, Does, IsQuiet, change_move}
 use Rattle.mcv_core.specs.Chapters.{era_move}
+use Rattle.mcv_core.specs.Asking.{IsUnbegun}
+use Rattle.mcv_core.specs.Events.{IsBegun, IsClocked, IsNext, IsReplay, IsTaken, Turns, step_move}
+use Rattle.mcv_core.specs.Events as events
 use Rattle.mcv_core.specs.View.{core_view}
+use Rattle.mcv_core.proofs.EventsLead.{Leads, goes, nothing_leads, stays}
 use Rattle.mcv_core.specs.declared.fault.CoreFault.{CoreFault}
+use Rattle.mcv_core.specs.declared.fault.CoreFault.TheVariants.{NoSuchCall}
 use Rattle.mcv_core.specs.declared.step.Step.{Step}
 use Rattle.mcv_core.specs.declared.turn.Era.{Era}
 use Rattle.mcv_core.specs.declared.step.Change.{Change}
 use Rattle.mcv_core.specs.declared.step.Change.TheVariants.{Nothing, Answered, Spooled, Refused, Performed}
 use Rattle.mcv_hub.specs.declared.entry.Entry.{Entry}
 use Rattle.mcv_hub.specs.declared.entry.Entry.TheVariants as entries
-use Rattle.mcv_hub.specs.History.{Begins, IsMoveOf, IsHistory, none, more, is_began, is_taken, with_entry, entries_in, leg_entry, era_entry}
-use Rattle.mcv_hub.specs.RemainingEntries.{break_count, may_write, written_by}
-use Rattle.mcv_hub.specs.State.{HasRoom, HistoryKeepsDeletes, HubView, IsHub, IsLegEvent, IsSame, IsSameBooks, IsWritten}
+use Rattle.mcv_hub.specs.Events.{BeginsChapter, IsHubEvent}
+use Rattle.mcv_hub.specs.History.{Begins, IsMoveOf, IsHistory, IsHistoryFrom, Writes, answer_change, answer_era, begins_one, begun_by, none, more, is_began, is_taken, taken_by, takes_one, with_entry, written, entries_in, leg_entry, era_entry}
+use Rattle.mcv_hub.specs.RemainingEntries.{break_count, may_write}
+use Rattle.mcv_hub.specs.State.{HasRoom, HistoryKeepsDeletes, HubView, IsHub, IsSameChapter}
+use Rattle.mcv_hub.proofs.EventsMayWrite.{Goes, GoesOn}
 
 run-push : (r : RoutesValue) (w : World) (ms : List Move) (m : Move) → run r w (ms ++ m ∷ []) ≡ after r (run r w ms) m
 run-push r w [] m = refl
@@ -53,95 +62,101 @@ possible-push r w [] m legal may = (may, tt)
 possible-push r w (x ∷ ms) m legal may = (legal.0, possible-push r (after r w x) ms m legal.1 may)
 
 -- the replay of a legal history is a world
-pub history_is_world : (r : RoutesValue) (live : World) (es : List Entry) (h : IsHistory r live es) → IsWorld r (run r h.opening h.moves)
-history_is_world r live es h = run_world r h.opening h.moves (opening_is_world r h.opening h.opens) h.legal
+pub history_is_world : (r : RoutesValue) (opening live : World) (es : List Entry) (h : IsHistoryFrom r opening live es) → IsWorld r (run r opening h.moves)
+history_is_world r opening live es h = run_world r opening h.moves (opening_is_world r opening h.opens) h.legal
 
-one_more : (v w : CoreView) (es : List Entry) (e : Entry) (m : Move) → IsHistory v.routes (world_of v.rows) es → Moved v w m → IsMoveOf v.routes e m → IsHistory v.routes (world_of w.rows) (es ++ e ∷ [])
-one_more v w es e m h moved is =
+one_more : (v w : CoreView) (opening : World) (es : List Entry) (e : Entry) (m : Move) → IsHistoryFrom v.routes opening (world_of v.rows) es → Moved v w m → IsMoveOf v.routes e m → IsHistoryFrom v.routes opening (world_of w.rows) (es ++ e ∷ [])
+one_more v w opening es e m h moved is =
     let r = v.routes in
-    let u = run r h.opening h.moves in
-    let world = history_is_world r (world_of v.rows) es h in
+    let u = run r opening h.moves in
+    let world = history_is_world r opening (world_of v.rows) es h in
     let may : IsPossible r u m = record { allowed = moved.allowed; move = moves_are_live r u m world ∙ ap (λ z. is_move r z m) h.replays ∙ moved.moves.is } in
     record {
-      opening = h.opening;
       moves = h.moves ++ m ∷ [];
       are = more es h.moves e m h.are is;
       opens = h.opens;
-      legal = possible-push r h.opening h.moves m h.legal may;
-      replays = ap (live_of r) (run-push r h.opening h.moves m) ∙ forgets_safely r u m world ∙ ap (λ z. live_of r (after r z m)) h.replays ∙ sym moved.moves.moves;
+      legal = possible-push r opening h.moves m h.legal may;
+      replays = ap (live_of r) (run-push r opening h.moves m) ∙ forgets_safely r u m world ∙ ap (λ z. live_of r (after r z m)) h.replays ∙ sym moved.moves.moves;
     }
 
-history_moves : (v w : CoreView) (es : List Entry) (e : Entry) (m : Move) → IsHistory v.routes (world_of v.rows) es → Moved v w m → IsMoveOf v.routes e m → IsHistory w.routes (world_of w.rows) (es ++ e ∷ [])
-history_moves v w es e m h moved is = subst (λ r. IsHistory r (world_of w.rows) (es ++ e ∷ [])) (sym moved.routes) (one_more v w es e m h moved is)
+-- ---- an event that may be a move
 
-history_stays : (v w : CoreView) (es : List Entry) → IsHistory v.routes (world_of v.rows) es → Unmoved v w → IsHistory w.routes (world_of w.rows) es
-history_stays v w es h u = subst (λ r. IsHistory r (world_of w.rows) es) (sym u.routes) (subst (λ z. IsHistory v.routes z es) (sym u.world) h)
+module _ (v w : CoreView) (opening : World) (es es2 : List Entry) (h : IsHistoryFrom v.routes opening (world_of v.rows) es) where
+  history_stays : w.routes ≡ v.routes → world_of w.rows ≡ world_of v.rows → es2 ≡ es → IsHistoryFrom w.routes opening (world_of w.rows) es2
+  history_stays routes world same =
+      subst (λ r. IsHistoryFrom r opening (world_of w.rows) es2) (sym routes) (subst (λ z. IsHistoryFrom v.routes opening z es2) (sym world) (subst (λ z. IsHistoryFrom v.routes opening (world_of v.rows) z) (sym same) h))
 
-count-push : (f : Entry → Bool) (es : List Entry) (e : Entry) (b b' before : ℕ) → b ≡ before + count_by f es → b' ≡ b + count_by f (e ∷ []) → b' ≡ before + count_by f (es ++ e ∷ [])
-count-push f es e b b' before p q = omega (arith, p, q, sum_by-append (λ x. cond (f x) 1 0) es (e ∷ []))
+  history_does : (m : Option Move) → Does v w m → Writes v.routes es m es2 → IsHistoryFrom w.routes opening (world_of w.rows) es2
+  history_does None d same = history_stays d.routes d.world same
+  history_does (Some m) d one =
+      subst (λ r. IsHistoryFrom r opening (world_of w.rows) es2) (sym d.routes) (subst (λ z. IsHistoryFrom v.routes opening (world_of w.rows) z) (sym one.at_end) (one_more v w opening es one.entry m h d one.is))
+
+  -- the history leads to the view after it, from the same world
+  pub history_goes : (m : Option Move) → Leads v w m → Writes v.routes es m es2 → IsHistoryFrom w.routes opening (world_of w.rows) es2
+  history_goes m (stays rows routes) writes = history_stays routes (ap world_of rows) writes
+  history_goes m (goes n d) writes = history_does n d writes
+
+leads_routes : (v w : CoreView) (m : Option Move) → Leads v w m → w.routes ≡ v.routes
+leads_routes v w m (stays rows routes) = routes
+leads_routes v w m (goes None d) = d.routes
+leads_routes v w m (goes (Some n) d) = d.routes
+
+-- ---- what the books count
+
+count-push : (f : Entry → Bool) (es : List Entry) (e : Entry) → count_by f (es ++ e ∷ []) ≡ count_by f es + count_by f (e ∷ [])
+count-push f es e = sum_by-append (λ x. cond (f x) 1 0) es (e ∷ [])
+
+entry_begins : (r : RoutesValue) (e : Entry) (m : Move) → IsMoveOf r e m → count_by is_began (e ∷ []) ≡ begins_one m
+entry_begins r (entries.Began request key) m h = sym (ap begins_one h.is)
+entry_begins r (entries.Answered leg reply) m h = sym (ap begins_one h)
+entry_begins r (entries.Spooled leg) m h = sym (ap begins_one h)
+entry_begins r (entries.Refused leg) m h = sym (ap begins_one h)
+entry_begins r (entries.Performed leg) m h = sym (ap begins_one h)
+entry_begins r (entries.EraBegan era) m h = sym (ap begins_one h)
+entry_begins r (entries.Taken call) m h = sym (ap begins_one h)
+
+entry_takes : (r : RoutesValue) (e : Entry) (m : Move) → IsMoveOf r e m → count_by is_taken (e ∷ []) ≡ takes_one m
+entry_takes r (entries.Began request key) m h = sym (ap takes_one h.is)
+entry_takes r (entries.Answered leg reply) m h = sym (ap takes_one h)
+entry_takes r (entries.Spooled leg) m h = sym (ap takes_one h)
+entry_takes r (entries.Refused leg) m h = sym (ap takes_one h)
+entry_takes r (entries.Performed leg) m h = sym (ap takes_one h)
+entry_takes r (entries.EraBegan era) m h = sym (ap takes_one h)
+entry_takes r (entries.Taken call) m h = sym (ap takes_one h)
+
+begun_counted : (r : RoutesValue) (es es2 : List Entry) (m : Option Move) → Writes r es m es2 → count_by is_began es2 ≡ count_by is_began es + begun_by m
+begun_counted r es es2 None same = let c = ap (count_by is_began) same in omega (arith, c)
+begun_counted r es es2 (Some m) one = let c = ap (count_by is_began) one.at_end ∙ count-push is_began es one.entry in let b = entry_begins r one.entry m one.is in omega (arith, c, b)
+
+taken_counted : (r : RoutesValue) (es es2 : List Entry) (m : Option Move) → Writes r es m es2 → count_by is_taken es2 ≡ count_by is_taken es + taken_by m
+taken_counted r es es2 None same = let c = ap (count_by is_taken) same in omega (arith, c)
+taken_counted r es es2 (Some m) one = let c = ap (count_by is_taken) one.at_end ∙ count-push is_taken es one.entry in let b = entry_takes r one.entry m one.is in omega (arith, c, b)
 
 -- ---- what holds of the hub after an event
 
-module _ (v w : CoreView) (es : List Entry) (c b t bb tb : ℕ) (h : IsHub v es c b t bb tb) where
-  covered_still : w.routes ≡ v.routes → AreCovered w.routes
-  covered_still e = subst AreCovered (sym e) h.covered
-
-  -- that is a move, whose entry was written
-  pub hub_moves : (e : Entry) (m : Move) (b' t' : ℕ) → Moved v w m → IsMoveOf v.routes e m → w.chapter ≡ v.chapter → b' ≡ b + count_by is_began (e ∷ []) → t' ≡ t + count_by is_taken (e ∷ []) → IsHub w (es ++ e ∷ []) c b' t' bb tb
-  hub_moves e m b' t' moved is same p q =
-      record {
-        covered = covered_still moved.routes;
-        legal = history_moves v w es e m h.legal moved is;
-        chapter_is = h.chapter_is ∙ sym same;
-        begun_is = count-push is_began es e b b' bb h.begun_is p;
-        taken_is = count-push is_taken es e t t' tb h.taken_is q;
-        begun_small = h.begun_small;
-        taken_small = h.taken_small;
-      }
-
-  -- that is none
-  pub hub_stays : Unmoved v w → w.chapter ≡ v.chapter → IsHub w es c b t bb tb
-  hub_stays u same =
-      record {
-        covered = covered_still u.routes;
-        legal = history_stays v w es h.legal u;
-        chapter_is = h.chapter_is ∙ sym same;
-        begun_is = h.begun_is;
-        taken_is = h.taken_is;
-        begun_small = h.begun_small;
-        taken_small = h.taken_small;
-      }
-
-  -- on a leg
-  pub hub_after_leg : (leg : LegId) (p : Part) (x : ReplyValue) (change : Change) → part_value p ≡ x → Does v w (change_move leg.0 x change) → w.chapter ≡ v.chapter → IsHub w (with_entry es (leg_entry leg p change)) c b t bb tb
-  hub_after_leg leg p x Nothing is d same = hub_stays d same
-  hub_after_leg leg p x Answered is d same = hub_moves _ _ b t d (ap (λ y. answered_move leg.0 y) (sym is)) same (omega arith) (omega arith)
-  hub_after_leg leg p x Spooled is d same = hub_moves _ _ b t d refl same (omega arith) (omega arith)
-  hub_after_leg leg p x Refused is d same = hub_moves _ _ b t d refl same (omega arith) (omega arith)
-  hub_after_leg leg p x Performed is d same = hub_moves _ _ b t d refl same (omega arith) (omega arith)
-
-  -- that is an era or none
-  pub hub_after_clock : (o : Option Era) → Does v w (era_move o) → w.chapter ≡ v.chapter → IsHub w (with_entry es (era_entry o)) c b t bb tb
-  hub_after_clock None d same = hub_stays d same
-  hub_after_clock (Some e) d same = hub_moves _ _ b t d refl same (omega arith) (omega arith)
-
-  -- that began a call
-  pub hub_after_begin : (request shared : Arc Request Global) (key b' : ℕ) → arc_value shared ≡ arc_value request → HasBegunFor v fnv_index (arc_value request) key w → b' ≡ b + 1 → IsHub w (es ++ entries.Began shared key ∷ []) c b' t bb tb
-  hub_after_begin request shared key b' same g p =
-      let asked = g.asked in
-      hub_moves (entries.Began shared key) (Began g.op g.route g.rest g.choice) b' t g.moves
-      (subst (λ q. Begins_of q) (sym same) (record { op = g.op; route = g.route; rest = g.rest; choice = g.choice; asked = asked; is = refl }))
-      (ap (λ z. z.chapter) g.view.view) (omega (arith, p)) (omega arith)
-    where
-      Begins_of : Request → Type 0
-      Begins_of q = Begins v.routes q key (Began g.op g.route g.rest g.choice)
+pub hub_goes : (v w : CoreView) (es es2 : List Entry) (c b t bb tb b2 t2 : ℕ) (m : Option Move) → IsHub v es c b t bb tb → Leads v w m → w.chapter ≡ v.chapter → Writes v.routes es m es2 → b2 ≡ b + begun_by m → t2 ≡ t + taken_by m
+    → IsHub w es2 c b2 t2 bb tb
+hub_goes v w es es2 c b t bb tb b2 t2 m h leads chapter writes more_begun more_taken =
+    let b_is = h.begun_is in
+    let t_is = h.taken_is in
+    let b_counted = begun_counted v.routes es es2 m writes in
+    let t_counted = taken_counted v.routes es es2 m writes in
+    record {
+      covered = subst AreCovered (sym (leads_routes v w m leads)) h.covered;
+      legal = record { opening = h.legal.opening; from = history_goes v w h.legal.opening es es2 h.legal.from m leads writes };
+      chapter_is = h.chapter_is ∙ sym chapter;
+      begun_is = omega (arith, b_is, b_counted, more_begun);
+      taken_is = omega (arith, t_is, t_counted, more_taken);
+      begun_small = h.begun_small;
+      taken_small = h.taken_small;
+    }
 
 -- that opened a chapter
 pub hub_after_turn : (v w : CoreView) (c b t bb tb : ℕ) → AreCovered v.routes → w.routes ≡ v.routes → IsQuiet w → c ≡ w.chapter → bb ≡ b → tb ≡ t → bb < 2 ^ 63 → tb < 2 ^ 63 → IsHub w [] c b t bb tb
 hub_after_turn v w c b t bb tb covered same q chapter e f small few =
     record {
       covered = subst AreCovered (sym same) covered;
-      legal = record { opening = world_of w.rows; moves = []; are = none; opens = q.0; legal = tt; replays = q.1 };
+      legal = record { opening = world_of w.rows; from = record { moves = []; are = none; opens = q.0; legal = tt; replays = q.1 } };
       chapter_is = chapter;
       begun_is = omega (arith, e);
       taken_is = omega (arith, f);
@@ -149,26 +164,19 @@ hub_after_turn v w c b t bb tb covered same q chapter e f small few =
       taken_small = few;
     }
 
--- that changed nothing
-pub hub_same : (v w : CoreView) (es : List Entry) (c b t bb tb : ℕ) → w ≡ v → IsHub v es c b t bb tb → IsHub w es c b t bb tb
-hub_same v w es c b t bb tb same h = subst (λ z. IsHub z es c b t bb tb) (sym same) h
-
 -- ---- the room after an event
 
 pub room_same : (v w : CoreView) (len capacity places : ℕ) → w ≡ v → HasRoom len capacity places (may_write v) → HasRoom len capacity places (may_write w)
 room_same v w len capacity places same h = subst (λ z. HasRoom len capacity places (may_write z)) (sym same) h
 
-pub written_is : (leg : LegId) (p : Part) (change : Change) → entries_in (leg_entry leg p change) ≡ written_by change
-written_is leg p Nothing = refl
-written_is leg p Answered = refl
-written_is leg p Spooled = refl
-written_is leg p Refused = refl
-written_is leg p Performed = refl
-
 -- as many entries were written as fewer may still be written
 pub room_stays : (len len' capacity capacity' places may_write may_write' written : ℕ) → HasRoom len capacity places may_write → may_write' + written ≤ may_write → len' ≡ len + written → capacity' ≡ capacity → HasRoom len' capacity' places may_write'
 room_stays len len' capacity capacity' places may_write may_write' written h spent longer same =
     record { within = omega (arith, h.within, spent, longer); kept = omega (arith, h.kept, same); small = h.small }
+
+-- what is written has its place
+pub write_fits : (len capacity places before after n : ℕ) → HasRoom len capacity places before → after + n ≤ before → len + n ≤ capacity
+write_fits len capacity places before after n h spent = let within = h.within in let kept = h.kept in omega (arith, within, kept, spent)
 
 -- ---- what a legal history says
 
@@ -192,59 +200,44 @@ reply_of_world r live w k x left f = reply_at r (w.calls k) (live.calls k) x (ap
 -- deletes are kept in the replay of a legal history
 pub history_keeps_deletes : (v : CoreView) (es : List Entry) → AreCovered v.routes → IsHistory v.routes (world_of v.rows) es → HistoryKeepsDeletes v es
 history_keeps_deletes v es covered h =
-    let is = history_is_world v.routes (world_of v.rows) es h in
-    record { legal = h; keeps = record { covered = covered; is = is; live = h.replays; kept = covered_worlds_are_kept v.routes (run v.routes h.opening h.moves) covered is } }
+    let is = history_is_world v.routes h.opening (world_of v.rows) es h.from in
+    record { legal = h; keeps = record { covered = covered; is = is; live = h.from.replays; kept = covered_worlds_are_kept v.routes (run v.routes h.opening h.from.moves) covered is } }
 
 -- ---- what events leave of the state's invariant
 
 abbrev pub Holds : (v : CoreView) (es : List Entry) (c b t bb tb len capacity places breaks : ℕ) → Type 0
 Holds v es c b t bb tb len capacity places breaks = IsHub v es c b t bb tb × HasRoom len capacity places (may_write v) × (breaks ≡ break_count v.routes)
 
-does_routes : (v w : CoreView) (m : Option Move) → Does v w m → w.routes ≡ v.routes
-does_routes v w None d = d.routes
-does_routes v w (Some m) d = d.routes
-
 module _ (v w : CoreView) (es : List Entry) (c b t bb tb len capacity places breaks : ℕ) (h : Holds v es c b t bb tb len capacity places breaks) where
-  -- nothing
-  pub same_holds : w ≡ v → Holds w es c b t bb tb len capacity places breaks
-  same_holds same = subst (λ z. Holds z es c b t bb tb len capacity places breaks) (sym same) h
-
-  -- an event on a leg
-  pub leg_holds : (leg : LegId) (p : Part) (x : ReplyValue) (change : Change) (e : Option Entry) (es' : List Entry) (len' capacity' : ℕ) → part_value p ≡ x → Does v w (change_move leg.0 x change) → w.chapter ≡ v.chapter
-      → may_write w + written_by change ≤ may_write v → e ≡ leg_entry leg p change → es' ≡ with_entry es e → len' ≡ len + entries_in e → capacity' ≡ capacity → Holds w es' c b t bb tb len' capacity' places breaks
-  leg_holds leg p x change e es' len' capacity' is d same spent entry items longer kept = (
-    subst (λ z. IsHub w z c b t bb tb) (sym (items ∙ ap (with_entry es) entry)) (hub_after_leg v w es c b t bb tb h.0 leg p x change is d same),
-    room_stays len len' capacity capacity' places (may_write v) (may_write w) (written_by change) h.1 spent (longer ∙ ap (λ z. len + entries_in z) entry ∙ ap (λ z. len + z) (written_is leg p change)) kept,
-    h.2 ∙ ap break_count (sym (does_routes v w (change_move leg.0 x change) d)),
-  )
-
-  -- the clock
-  pub clock_holds : (o : Option Era) (e : Option Entry) (es' : List Entry) (len' capacity' : ℕ) → Does v w (era_move o) → w.chapter ≡ v.chapter
-      → may_write w + entries_in (era_entry o) ≤ may_write v → e ≡ era_entry o → es' ≡ with_entry es e → len' ≡ len + entries_in e → capacity' ≡ capacity → Holds w es' c b t bb tb len' capacity' places breaks
-  clock_holds o e es' len' capacity' d same spent entry items longer kept = (
-    subst (λ z. IsHub w z c b t bb tb) (sym (items ∙ ap (with_entry es) entry)) (hub_after_clock v w es c b t bb tb h.0 o d same),
-    room_stays len len' capacity capacity' places (may_write v) (may_write w) (entries_in (era_entry o)) h.1 spent (longer ∙ ap (λ z. len + entries_in z) entry) kept,
-    h.2 ∙ ap break_count (sym (does_routes v w (era_move o) d)),
-  )
-
-  -- a reply that was taken
-  pub take_holds : (call : CallId) (es' : List Entry) (t' len' capacity' : ℕ) → Moved v w (taken_move call.0) → w.chapter ≡ v.chapter
-      → may_write w + 1 ≤ may_write v → es' ≡ es ++ entries.Taken call ∷ [] → t' ≡ t + 1 → len' ≡ len + 1 → capacity' ≡ capacity → Holds w es' c b t' bb tb len' capacity' places breaks
-  take_holds call es' t' len' capacity' d same spent items more_taken longer kept = (
-    subst (λ z. IsHub w z c b t' bb tb) (sym items) (hub_moves v w es c b t bb tb h.0 (entries.Taken call) (taken_move call.0) b t' d refl same (omega arith) (omega (arith, more_taken))),
-    room_stays len len' capacity capacity' places (may_write v) (may_write w) 1 h.1 spent longer kept,
-    h.2 ∙ ap break_count (sym d.routes),
+  -- an event that doesn't begin a call
+  pub goes_holds : (m : Option Move) → Goes v w m → (es2 : List Entry) (b2 t2 len2 capacity2 : ℕ) → Writes v.routes es m es2 → b2 ≡ b + begun_by m → t2 ≡ t + taken_by m → len2 ≡ len + written m → capacity2 ≡ capacity
+      → Holds w es2 c b2 t2 bb tb len2 capacity2 places breaks
+  goes_holds m g es2 b2 t2 len2 capacity2 writes more_begun more_taken longer kept = (
+    hub_goes v w es es2 c b t bb tb b2 t2 m h.0 g.leads g.chapter writes more_begun more_taken,
+    room_stays len len2 capacity capacity2 places (may_write v) (may_write w) (written m) h.1 g.spent longer kept,
+    h.2 ∙ ap break_count (sym (leads_routes v w m g.leads)),
   )
 
   -- a call that began
-  pub begin_holds : (request shared : Arc Request Global) (key : ℕ) (es' : List Entry) (b' len' capacity' places' : ℕ) → arc_value shared ≡ arc_value request → HasBegunFor v fnv_index (arc_value request) key w
-      → may_write w + 1 + v.entries ≤ may_write v + w.entries → es' ≡ es ++ entries.Began shared key ∷ [] → b' ≡ b + 1 → len' ≡ len + 1 → places' ≤ capacity' → places' ≤ 2 ^ 62 → places' + v.entries ≡ places + w.entries
-      → Holds w es' c b' t bb tb len' capacity' places' breaks
-  begin_holds request shared key es' b' len' capacity' places' same g spent items more_begun longer kept small grown = (
-    subst (λ z. IsHub w z c b' t bb tb) (sym items) (hub_after_begin v w es c b t bb tb h.0 request shared key b' same g more_begun),
+  pub begin_holds : (m : Option Move) → GoesOn v w m → (es2 : List Entry) (b2 t2 len2 capacity2 places2 : ℕ) → Writes v.routes es m es2 → b2 ≡ b + begun_by m → t2 ≡ t + taken_by m → len2 ≡ len + written m
+      → places2 ≤ capacity2 → places2 ≤ 2 ^ 62 → places2 + v.entries ≡ places + w.entries → Holds w es2 c b2 t2 bb tb len2 capacity2 places2 breaks
+  begin_holds m g es2 b2 t2 len2 capacity2 places2 writes more_begun more_taken longer kept small grown = (
+    hub_goes v w es es2 c b t bb tb b2 t2 m h.0 g.leads g.chapter writes more_begun more_taken,
     let within = h.1.within in
+        let spent = g.spent in
         record { within = omega (arith, within, spent, longer, grown); kept = kept; small = small },
-    h.2 ∙ ap break_count (sym g.moves.routes),
+    h.2 ∙ ap break_count (sym (leads_routes v w m g.leads)),
+  )
+
+  -- a call that was refused, when the history had more room
+  pub refused_holds : w ≡ v → (es2 : List Entry) (len2 capacity2 : ℕ) → es2 ≡ es → len2 ≡ len → capacity ≤ capacity2 → Holds w es2 c b t bb tb len2 capacity2 places breaks
+  refused_holds same es2 len2 capacity2 items longer grown = (
+    subst (λ z. IsHub z es2 c b t bb tb) (sym same) (subst (λ z. IsHub v z c b t bb tb) (sym items) h.0),
+    let room = room_same v w len capacity places same h.1 in
+        let within = room.within in
+        let kept = room.kept in
+        record { within = omega (arith, within, longer); kept = omega (arith, kept, grown); small = room.small },
+    h.2 ∙ ap (λ z. break_count z.routes) (sym same),
   )
 
   -- a chapter that began
@@ -273,7 +266,7 @@ opened_history r records =
     let since = since_at (breaks_of r) 0 in
     let w = opened since known in
     let o = spooled_rows_open r w (opened_is_core r since known) (λ k. refl) (λ n s e. spooled_is (slice_get known n) s e) (moments_have_eras r 0) in
-    record { opening = world_of w; moves = []; are = none; opens = o.0; legal = tt; replays = o.1 }
+    record { opening = world_of w; from = record { moves = []; are = none; opens = o.0; legal = tt; replays = o.1 } }
 
 -- a core that was opened
 pub opened_holds : (w : CoreView) (r : RoutesValue) (records : List (ℕ × SpoolRecord)) (es : List Entry) (b t len capacity places breaks : ℕ) → w ≡ opened_view r records → AreCovered r → es ≡ [] → b ≡ 0 → t ≡ 0 → len ≡ 0
@@ -287,11 +280,194 @@ opened_holds w r records es b t len capacity places breaks same covered empty be
     hub : IsHub (opened_view r records) [] 0 b t 0 0
     hub = record { covered = covered; legal = opened_history r records; chapter_is = refl; begun_is = omega (arith, begun); taken_is = omega (arith, taken); begun_small = omega arith; taken_small = omega arith }
 
--- ---- events on legs
+-- ---- what events say of the hub
 
-pub leg_event_ok : (e : Effect) (x : ReplyValue) (leg : LegId) (old new : HubView) (step : Step) → HasEffect e (core_view old.core) (core_view new.core) (Ok step) → Does (core_view old.core) (core_view new.core) (change_move leg.0 x step.change)
-    → IsWritten old new leg x step.change → IsSameBooks old new → IsLegEvent e x leg old new (Ok step)
-leg_event_ok e x leg old new step effect does written books = record { effect = effect; does = does; entry = written; books = books; refused = tt }
+-- the event is the core's, and this was written and counted
+pub hub_event : (Event : Option Move → CoreView → Type 0) (old new : HubView) (m : Option Move) → Event m (core_view new.core) → Leads (core_view old.core) (core_view new.core) m → Writes (core_view old.core).routes old.history m new.history
+    → new.begun ≡ old.begun + begun_by m → new.taken ≡ old.taken + taken_by m → IsSameChapter old new → IsHubEvent Event old new
+hub_event Event old new m event leads writes more_begun more_taken chapter = record {
+  move = m;
+  event = event;
+  writes = writes;
+  begun = more_begun;
+  taken = more_taken;
+  chapter = chapter;
+  opening = λ world h. history_goes (core_view old.core) (core_view new.core) world old.history new.history h m leads writes;
+}
 
-pub leg_event_err : (e : Effect) (x : ReplyValue) (leg : LegId) (old new : HubView) (fault : CoreFault) → HasEffect e (core_view old.core) (core_view new.core) (Err fault) → IsSame old new → IsLegEvent e x leg old new (Err fault)
-leg_event_err e x leg old new fault effect same = record { effect = effect; does = tt; entry = tt; books = same.books; refused = same }
+-- one that is no move
+pub none_writes : (r : RoutesValue) (es es2 : List Entry) (m : Option Move) → m ≡ None → es2 ≡ es → Writes r es m es2
+none_writes r es es2 m is same = subst (λ k. Writes r es k es2) (sym is) same
+
+pub none_begins : (b : ℕ) (m : Option Move) → m ≡ None → b ≡ b + begun_by m
+none_begins b m is = let e = ap begun_by is in omega (arith, e)
+
+pub none_takes : (t : ℕ) (m : Option Move) → m ≡ None → t ≡ t + taken_by m
+none_takes t m is = let e = ap taken_by is in omega (arith, e)
+
+pub none_longer : (n : ℕ) (m : Option Move) → m ≡ None → n ≡ n + written m
+none_longer n m is = let e = ap written is in omega (arith, e)
+
+-- one on a leg
+pub change_writes : (r : RoutesValue) (es : List Entry) (leg : LegId) (p : Part) (x : ReplyValue) (change : Change) → part_value p ≡ x → Writes r es (change_move leg.0 x change) (with_entry es (leg_entry leg p change))
+change_writes r es leg p x Nothing is = refl
+change_writes r es leg p x Answered is = record { entry = entries.Answered leg p; is = ap (λ y. answered_move leg.0 y) (sym is); at_end = refl }
+change_writes r es leg p x Spooled is = record { entry = entries.Spooled leg; is = refl; at_end = refl }
+change_writes r es leg p x Refused is = record { entry = entries.Refused leg; is = refl; at_end = refl }
+change_writes r es leg p x Performed is = record { entry = entries.Performed leg; is = refl; at_end = refl }
+
+step_is : (n : ℕ) (x : ReplyValue) (a : Result Step CoreFault) → step_move n x a ≡ change_move n x (answer_change a)
+step_is n x (Ok step) = refl
+step_is n x (Err fault) = refl
+
+change_begins : (n : ℕ) (x : ReplyValue) (change : Change) → begun_by (change_move n x change) ≡ 0
+change_begins n x Nothing = refl
+change_begins n x Answered = refl
+change_begins n x Spooled = refl
+change_begins n x Refused = refl
+change_begins n x Performed = refl
+
+change_takes : (n : ℕ) (x : ReplyValue) (change : Change) → taken_by (change_move n x change) ≡ 0
+change_takes n x Nothing = refl
+change_takes n x Answered = refl
+change_takes n x Spooled = refl
+change_takes n x Refused = refl
+change_takes n x Performed = refl
+
+change_longer : (leg : LegId) (p : Part) (x : ReplyValue) (change : Change) → entries_in (leg_entry leg p change) ≡ written (change_move leg.0 x change)
+change_longer leg p x Nothing = refl
+change_longer leg p x Answered = refl
+change_longer leg p x Spooled = refl
+change_longer leg p x Refused = refl
+change_longer leg p x Performed = refl
+
+module _ (leg : LegId) (p : Part) (x : ReplyValue) (a : Result Step CoreFault) (m : Option Move) (is : m ≡ step_move leg.0 x a) where
+  change_is : m ≡ change_move leg.0 x (answer_change a)
+  change_is = is ∙ step_is leg.0 x a
+
+  pub leg_writes : (r : RoutesValue) (es es2 : List Entry) (e : Option Entry) → part_value p ≡ x → e ≡ leg_entry leg p (answer_change a) → es2 ≡ with_entry es e → Writes r es m es2
+  leg_writes r es es2 e reply entry items =
+      subst (λ k. Writes r es k es2) (sym change_is) (subst (λ z. Writes r es (change_move leg.0 x (answer_change a)) z) (sym (items ∙ ap (with_entry es) entry)) (change_writes r es leg p x (answer_change a) reply))
+
+  pub leg_begins : (b : ℕ) → b ≡ b + begun_by m
+  leg_begins b = let e = ap begun_by change_is ∙ change_begins leg.0 x (answer_change a) in omega (arith, e)
+
+  pub leg_takes : (t : ℕ) → t ≡ t + taken_by m
+  leg_takes t = let e = ap taken_by change_is ∙ change_takes leg.0 x (answer_change a) in omega (arith, e)
+
+  pub leg_longer : (n n2 : ℕ) (e : Option Entry) → e ≡ leg_entry leg p (answer_change a) → n2 ≡ n + entries_in e → n2 ≡ n + written m
+  leg_longer n n2 e entry longer = let k = ap entries_in entry ∙ change_longer leg p x (answer_change a) ∙ sym (ap written change_is) in omega (arith, longer, k)
+
+-- one of the clock
+era_writes_one : (r : RoutesValue) (es : List Entry) (o : Option Era) → Writes r es (era_move o) (with_entry es (era_entry o))
+era_writes_one r es None = refl
+era_writes_one r es (Some era) = record { entry = entries.EraBegan era; is = refl; at_end = refl }
+
+era_begins_none : (o : Option Era) → begun_by (era_move o) ≡ 0
+era_begins_none None = refl
+era_begins_none (Some era) = refl
+
+era_takes_none : (o : Option Era) → taken_by (era_move o) ≡ 0
+era_takes_none None = refl
+era_takes_none (Some era) = refl
+
+era_longer_one : (o : Option Era) → entries_in (era_entry o) ≡ written (era_move o)
+era_longer_one None = refl
+era_longer_one (Some era) = refl
+
+pub clock_move : (v : CoreView) (moment : Moment) (a : Result (Option Era) CoreFault) (m : Option Move) (w : CoreView) → IsClocked v moment a m w → m ≡ era_move (answer_era a)
+clock_move v moment (Ok era) m w h = h.move
+clock_move v moment (Err fault) m w h = h.none
+
+module _ (a : Result (Option Era) CoreFault) (m : Option Move) (is : m ≡ era_move (answer_era a)) where
+  pub era_writes : (r : RoutesValue) (es es2 : List Entry) (e : Option Entry) → e ≡ era_entry (answer_era a) → es2 ≡ with_entry es e → Writes r es m es2
+  era_writes r es es2 e entry items = subst (λ k. Writes r es k es2) (sym is) (subst (λ z. Writes r es (era_move (answer_era a)) z) (sym (items ∙ ap (with_entry es) entry)) (era_writes_one r es (answer_era a)))
+
+  pub era_begins : (b : ℕ) → b ≡ b + begun_by m
+  era_begins b = let e = ap begun_by is ∙ era_begins_none (answer_era a) in omega (arith, e)
+
+  pub era_takes : (t : ℕ) → t ≡ t + taken_by m
+  era_takes t = let e = ap taken_by is ∙ era_takes_none (answer_era a) in omega (arith, e)
+
+  pub era_longer : (n n2 : ℕ) (e : Option Entry) → e ≡ era_entry (answer_era a) → n2 ≡ n + entries_in e → n2 ≡ n + written m
+  era_longer n n2 e entry longer = let k = ap entries_in entry ∙ era_longer_one (answer_era a) ∙ sym (ap written is) in omega (arith, longer, k)
+
+-- the events that are never a move
+pub next_none : (v : CoreView) (server : ServerId) (r : Result LegId CoreFault) (m : Option Move) (w : CoreView) → IsNext v server r m w → m ≡ None
+next_none v server (Ok leg) m w h = h.none
+next_none v server (Err fault) m w h = h.none
+
+pub replay_none : (v : CoreView) (server : ServerId) (r : Result LegId CoreFault) (m : Option Move) (w : CoreView) → IsReplay v server r m w → m ≡ None
+replay_none v server (Ok leg) m w h = h.none
+replay_none v server (Err fault) m w h = h.none
+
+-- ---- calls
+
+-- a move is written
+pub one_writes : (r : RoutesValue) (es es2 : List Entry) (e : Entry) (m : Option Move) (n : Move) → m ≡ Some n → IsMoveOf r e n → es2 ≡ es ++ e ∷ [] → Writes r es m es2
+one_writes r es es2 e m n is entry items = subst (λ k. Writes r es k es2) (sym is) (record { entry = e; is = entry; at_end = items })
+
+-- a call that began, for a copy of the request
+pub begun_writes : (v : CoreView) (request shared : Arc Request Global) (key : ℕ) (call : CallId) (m : Option Move) (w : CoreView) (es es2 : List Entry) → arc_value shared ≡ arc_value request → events.Begins v fnv_index (arc_value request) key call m w
+    → es2 ≡ es ++ entries.Began shared key ∷ [] → Writes v.routes es m es2
+begun_writes v request shared key call m w es es2 same h items =
+    one_writes v.routes es es2 (entries.Began shared key) m (Began h.op h.route h.rest h.choice) h.move
+    (subst (λ q. Begins v.routes q key (Began h.op h.route h.rest h.choice)) (sym same) (record { op = h.op; route = h.route; rest = h.rest; choice = h.choice; asked = h.asked; is = refl })) items
+
+pub begun_begins : (v : CoreView) (chosen : SymbolValue → List ℕ → ℕ) (request : Request) (key : ℕ) (call : CallId) (m : Option Move) (w : CoreView) (b b2 : ℕ) → events.Begins v chosen request key call m w → b2 ≡ b + 1 → b2 ≡ b + begun_by m
+begun_begins v chosen request key call m w b b2 h more_begun = let e = ap begun_by h.move in omega (arith, e, more_begun)
+
+pub begun_takes : (v : CoreView) (chosen : SymbolValue → List ℕ → ℕ) (request : Request) (key : ℕ) (call : CallId) (m : Option Move) (w : CoreView) (t : ℕ) → events.Begins v chosen request key call m w → t ≡ t + taken_by m
+begun_takes v chosen request key call m w t h = let e = ap taken_by h.move in omega (arith, e)
+
+pub begun_longer : (v : CoreView) (chosen : SymbolValue → List ℕ → ℕ) (request : Request) (key : ℕ) (call : CallId) (m : Option Move) (w : CoreView) (n n2 : ℕ) → events.Begins v chosen request key call m w → n2 ≡ n + 1 → n2 ≡ n + written m
+begun_longer v chosen request key call m w n n2 h longer = let e = ap written h.move in omega (arith, e, longer)
+
+-- a reply that was taken, or not
+pub taken_begins : (m : Option Move) (k b : ℕ) → m ≡ Some (taken_move k) → b ≡ b + begun_by m
+taken_begins m k b is = let e = ap begun_by is in omega (arith, e)
+
+pub taken_takes : (m : Option Move) (k t t2 : ℕ) → m ≡ Some (taken_move k) → t2 ≡ t + 1 → t2 ≡ t + taken_by m
+taken_takes m k t t2 is more_taken = let e = ap taken_by is in omega (arith, e, more_taken)
+
+pub taken_longer : (m : Option Move) (k n n2 : ℕ) → m ≡ Some (taken_move k) → n2 ≡ n + 1 → n2 ≡ n + written m
+taken_longer m k n n2 is longer = let e = ap written is in omega (arith, e, longer)
+
+pub untaken_none : (v : CoreView) (call : CallId) (m : Option Move) (w : CoreView) → IsTaken v call (Ok None) m w → m ≡ None
+untaken_none v call m w h = h.none
+
+-- ---- what is refused
+
+-- nothing was begun
+pub unbegun_event : (old new : HubView) (request : Request) (key : ℕ) (fault : CoreFault) → IsUnbegun (core_view old.core) fnv_index request key fault → core_view new.core ≡ core_view old.core → new.history ≡ old.history → new.begun ≡ old.begun → new.taken ≡ old.taken → IsSameChapter old new
+    → IsHubEvent (IsBegun (core_view old.core) fnv_index request key (Err fault)) old new
+unbegun_event old new request key fault cause same history b t chapter =
+    hub_event (IsBegun (core_view old.core) fnv_index request key (Err fault)) old new None (record { cause = cause; none = refl; same = same }) (nothing_leads (core_view old.core) (core_view new.core) None refl same) history (omega (arith, b)) (omega (arith, t)) chapter
+
+-- no such call runs
+pub uncalled_event : (old new : HubView) (call : CallId) (fault : CoreFault) → fault ≡ NoSuchCall → (core_view old.core).rows.calls call.0 ≡ None → core_view new.core ≡ core_view old.core → new.history ≡ old.history → new.begun ≡ old.begun → new.taken ≡ old.taken → IsSameChapter old new
+    → IsHubEvent (IsTaken (core_view old.core) call (Err fault)) old new
+uncalled_event old new call fault is no_call same history b t chapter =
+    hub_event (IsTaken (core_view old.core) call (Err fault)) old new None (record { cause = (is, no_call); none = refl; same = same }) (nothing_leads (core_view old.core) (core_view new.core) None refl same) history (omega (arith, b)) (omega (arith, t)) chapter
+
+-- ---- chapters
+
+pub chapter_begins : (old new : HubView) (m : Option Move) → Turns (core_view old.core) m (core_view new.core) → new.history ≡ [] → new.chapter ≡ old.chapter + 1 → new.begun ≡ old.begun → new.taken ≡ old.taken → new.begun_before ≡ old.begun → new.taken_before ≡ old.taken
+    → old.begun < 2 ^ 63 → old.taken < 2 ^ 63 → BeginsChapter old new
+chapter_begins old new m h history chapter b t bb tb few_begun few_taken =
+    let v : CoreView = core_view old.core in
+    let w : CoreView = core_view new.core in
+    record {
+      turns = subst (λ k. Turns v k w) h.none h;
+      history = history;
+      opening =
+          subst (λ es. IsHistoryFrom w.routes (world_of v.rows) (world_of w.rows) es) (sym history)
+          (subst (λ o. IsHistoryFrom w.routes o (world_of w.rows) []) h.does.world (record { moves = []; are = none; opens = h.quiet.0; legal = tt; replays = h.quiet.1 }));
+      chapter = chapter;
+      begun = b;
+      taken = t;
+      begun_before = bb;
+      taken_before = tb;
+      few_begun = few_begun;
+      few_taken = few_taken;
+    }

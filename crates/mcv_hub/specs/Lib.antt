@@ -2,3 +2,4 @@ pub mod RemainingEntries
 pub mod History
 pub mod State
 pub mod Receipts
+pub mod Events

@@ -1,32 +1,19 @@
 -- What contracts see of the hub's state, and what holds of it whenever the lock is free (own).
-use Rattle.std.specs.Prelude.{◌≡◌, ◌+◌, ◌<◌, ◌≤◌, ◌^◌, [], ◌∷◌, ◌++◌, ℕ, List, Some, Result, IfOk, OnErr, count_by}
-use Rattle.std.specs.Arc.{arc_value}
-use Rattle.std.specs.declared.alloc.Global.{Global}
-use Rattle.std.specs.declared.sync.Arc.{Arc}
-use Rattle.mcv_base.specs.Reply.{ReplyValue, part_value}
+use Rattle.std.specs.Prelude.{◌≡◌, ◌+◌, ◌<◌, ◌≤◌, ◌^◌, ℕ, List, Some, count_by}
+use Rattle.mcv_base.specs.Reply.{ReplyValue}
 use Rattle.mcv_base.specs.declared.operation.Op.{Op}
-use Rattle.mcv_base.specs.declared.request.CallId.{CallId}
-use Rattle.mcv_base.specs.declared.reply.Part.{Part}
-use Rattle.mcv_base.specs.declared.request.LegId.{LegId}
-use Rattle.mcv_base.specs.declared.request.Request.{Request}
-use Rattle.mcv_pools.specs.Hash.{fnv_index}
 use Rattle.mcv_symbolic.specs.CoveredRoutes.{AreCovered}
 use Rattle.mcv_world.specs.World.{World}
 use Rattle.mcv_world.specs.Laws.{HasReply, IsWorld}
 use Rattle.mcv_world.specs.LiveWorld.{live_of}
 use Rattle.mcv_world.specs.Moves.{run}
 use Rattle.mcv_events.specs.Rows.{CallRow, world_of}
-use Rattle.mcv_core.specs.Asking.{HasBegunFor}
-use Rattle.mcv_core.specs.CoreView.{CoreView, Does, Effect, HasEffect, change_move}
+use Rattle.mcv_core.specs.CoreView.{CoreView}
 use Rattle.mcv_core.specs.KeptDeletes.{KeepsDeletes}
 use Rattle.mcv_core.specs.View.{core_view}
-use Rattle.mcv_core.specs.declared.fault.CoreFault.{CoreFault}
-use Rattle.mcv_core.specs.declared.step.Change.{Change}
-use Rattle.mcv_core.specs.declared.step.Step.{Step}
 use Rattle.mcv_core.specs.declared.dispatcher.Dispatcher.{Dispatcher}
-use Rattle.mcv_hub.specs.History.{IsHistory, is_began, is_taken, leg_entry, with_entry}
+use Rattle.mcv_hub.specs.History.{IsHistory, is_began, is_taken}
 use Rattle.mcv_hub.specs.declared.entry.Entry.{Entry}
-use Rattle.mcv_hub.specs.declared.entry.Entry.TheVariants as entries
 
 pub record HubView : Type 0 where
   pub core : Dispatcher
@@ -53,7 +40,7 @@ pub record IsHub (v : CoreView) (history : List Entry) (chapter begun taken begu
 -- the history is legal, and deletes are kept in the world that it leads to, in which a call stays that the core has forgotten
 pub record HistoryKeepsDeletes (v : CoreView) (history : List Entry) : Type 0 where
   pub legal : IsHistory v.routes (world_of v.rows) history
-  pub keeps : KeepsDeletes v (run v.routes legal.opening legal.moves)
+  pub keeps : KeepsDeletes v (run v.routes legal.opening legal.from.moves)
 
 -- the entries that the core may still write have their places, and all of them can be counted
 pub record HasRoom (len capacity places may_write : ℕ) : Type 0 where
@@ -81,29 +68,7 @@ pub record IsSame (old new : HubView) : Type 0 where
   pub history : new.history ≡ old.history
   pub books : IsSameBooks old new
 
--- the entry of an event on a leg that had this reply was written
-pub record IsWritten (old new : HubView) (leg : LegId) (x : ReplyValue) (change : Change) : Type 0 where
-  pub reply : Part
-  pub is : part_value reply ≡ x
-  pub entry : new.history ≡ with_entry old.history (leg_entry leg reply change)
-
--- what an event on a leg does: it answers and changes what the core's does, and writes the entry of its move, or none
-pub record IsLegEvent (e : Effect) (x : ReplyValue) (leg : LegId) (old new : HubView) (result : Result Step CoreFault) : Type 0 where
-  pub effect : HasEffect e (core_view old.core) (core_view new.core) result
-  pub does : IfOk result (λ step. Does (core_view old.core) (core_view new.core) (change_move leg.0 x step.change))
-  pub entry : IfOk result (λ step. IsWritten old new leg x step.change)
-  pub books : IsSameBooks old new
-  pub refused : OnErr result (IsSame old new)
-
 -- ---- calls
-
--- the call for the key was begun, and its entry written
-pub record BeginsOne (old new : HubView) (request : Arc Request Global) (key : ℕ) (call : CallId) : Type 0 where
-  pub begun : HasBegunFor (core_view old.core) fnv_index (arc_value request) key (core_view new.core)
-  pub number : call.0 ≡ (core_view old.core).rows.next_call
-  pub shared : Arc Request Global
-  pub same : arc_value shared ≡ arc_value request
-  pub entry : new.history ≡ old.history ++ entries.Began shared key ∷ []
 
 -- the call runs, and asks this operation of this route and rest
 pub record IsCallOf (v : HubView) (k : ℕ) (op : Op) (route : ℕ) (rest : List ℕ) : Type 0 where

@@ -1,11 +1,11 @@
 //! Histories: writing an entry, and counting entries.
 
 ghost use Rattle.std.specs.Prelude.{◌≡◌, ◌+◌, ◌≤◌, vec_len, vec_capacity, count_by};
-ghost use Rattle.mcv_hub.specs.History.{entries_in, era_entry, is_began, is_taken, leg_entry, with_entry};
+ghost use Rattle.mcv_hub.specs.History.{answer_change, answer_era, entries_in, era_entry, is_began, is_taken, leg_entry, with_entry};
 
 use crate::entry::Entry;
 use mcv_base::{LegId, Part};
-use mcv_core::{Change, Era};
+use mcv_core::{Change, CoreFault, Era, Step};
 
 /// The entry of an event on a leg, where its reply was this.
 pub(crate) fn leg_entry(leg: LegId, reply: Part, change: Change) -> Option<Entry>
@@ -20,13 +20,24 @@ pub(crate) fn leg_entry(leg: LegId, reply: Part, change: Change) -> Option<Entry
     }
 }
 
-/// The entry of an era that began.
-pub(crate) fn era_entry(era: Option<Era>) -> Option<Entry>
-    ensures { result ≡ era_entry era }
+/// What an event on a leg changed; nothing where it was refused.
+pub(crate) fn change_of(answer: &Result<Step, CoreFault>) -> Change
+    ensures { result ≡ answer_change answer.now }
 {
-    match era {
-        Some(era) => Some(Entry::EraBegan(era)),
-        None => None,
+    match answer {
+        Ok(step) => step.change,
+        Err(_) => Change::Nothing,
+    }
+}
+
+/// The entry of an era that began; None where the clock was refused.
+pub(crate) fn era_entry(answer: &Result<Option<Era>, CoreFault>) -> Option<Entry>
+    ensures { result ≡ era_entry (answer_era answer.now) }
+{
+    match answer {
+        Ok(Some(era)) => Some(Entry::EraBegan(*era)),
+        Ok(None) => None,
+        Err(_) => None,
     }
 }
 

@@ -1,6 +1,6 @@
 //! The lock, and the bells on which threads wait.
 
-ghost use Rattle.std.specs.Prelude.{◌≡◌, ◌+◌, IfErr};
+ghost use Rattle.std.specs.Prelude.{◌≡◌, ◌+◌, IfErr, IfOk};
 ghost use Rattle.mcv_core.specs.declared.fault.CoreFault.TheVariants.{Memory as OutOfMemory};
 
 use crate::guard::Guard;
@@ -67,6 +67,7 @@ impl<B: Ledger, T: Ledger> Hub<B, T> {
     ) -> Result<(Hub<B, T>, Passes<B, T>), CoreFault>
         requires begun { (begun.name ≡ B.name) × (begun.parts ≡ B.parts) × (begun.parts ≡ seats + 1) }
         requires taken { (taken.name ≡ T.name) × (taken.parts ≡ T.parts) × (taken.parts ≡ seats + 1) }
+        ensures seats { IfOk result (λ r. r.1.left ≡ seats) }
         ensures err { IfErr result (λ fault. fault ≡ OutOfMemory) }
     {
         let Ok(servers) = bells(alloc, accepted.routes().servers().len()) else {

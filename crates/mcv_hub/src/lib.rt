@@ -6,7 +6,6 @@
 //! leads to, and deletes are kept in it (`Guard::deletes_are_kept`).
 #![tactic(auto)]
 
-mod core_events;
 mod entry;
 mod guard;
 mod history;
@@ -24,4 +23,3 @@ pub use crate::pass::{Pass, Passes};
 pub use crate::receipts::{Receipt, ReceiptFault, Report};
 pub use crate::reply::LegReply;
 pub use crate::seat::{Seat, TakenReply};
-pub use crate::state::HubState;

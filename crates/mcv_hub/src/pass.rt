@@ -29,6 +29,7 @@ impl<B: Ledger, T: Ledger> Passes<B, T> {
     pub(crate) fn new(left: u64, begun: Share<B>, taken: Share<T>) -> Passes<B, T>
         requires begun { (begun.parts ≡ left + 1) × (begun.amount ≡ 0) }
         requires taken { (taken.parts ≡ left + 1) × (taken.amount ≡ 0) }
+        ensures left { result.left ≡ left }
     {
         Passes { left, begun, taken }
     }
@@ -41,7 +42,9 @@ impl<B: Ledger, T: Ledger> Passes<B, T> {
     /// A seat for one session, which has begun no call and taken no reply; None once all seats were given.
     pub fn seat(&mut self) -> Option<Seat<B, T>>
         ensures rest { IfSome result (λ s. (self.new.begun.parts + 1 ≡ self.old.begun.parts) × (self.new.taken.parts + 1 ≡ self.old.taken.parts)) }
-        ensures none { IfNone result ((self.new.begun.parts ≡ self.old.begun.parts) × (self.new.taken.parts ≡ self.old.taken.parts)) }
+        ensures left { IfSome result (λ s. self.new.left + 1 ≡ self.old.left) }
+        ensures none { IfNone result ((self.old.left ≡ 0) × (self.new.left ≡ 0)) }
+        ensures same { IfNone result ((self.new.begun.parts ≡ self.old.begun.parts) × (self.new.taken.parts ≡ self.old.taken.parts)) }
         ensures seat { IfSome result (λ s. (s.begun.parts ≡ 1) × (s.taken.parts ≡ 1) × (s.begun.amount ≡ 0) × (s.taken.amount ≡ 0)) }
     {
         if self.left == 0 {

@@ -39,6 +39,7 @@ impl LegReply {
             Reply::NotFound => Ok(LegReply::fixed(FixedReply::NotFound)),
             Reply::Deleted => Ok(LegReply::fixed(FixedReply::Deleted)),
             Reply::Touched => Ok(LegReply::fixed(FixedReply::Touched)),
+            Reply::Number(value) => Ok(LegReply::fixed(FixedReply::Number(value))),
             Reply::Hit { flags, cas, body } => LegReply::hit(alloc, flags, cas, body),
             Reply::Fault(line) => LegReply::fault(alloc, line),
         }

@@ -1,31 +1,20 @@
 //! What lies under the lock.
 
-ghost use Rattle.std.specs.Prelude.{◌≡◌, ◌+◌, ◌-◌, ◌<◌, ◌≤◌, ◌^◌, ◌⊎◌, [], ◌∷◌, ◌++◌, length, IfOk, OnOk, IfErr, OnErr, IfSome, IfNone, IsSome, count_by, vec_len, vec_capacity, false, true, None, Some, MatchOption};
+ghost use Rattle.std.specs.Prelude.{◌≡◌, ◌+◌, ◌<◌, ◌≤◌, ◌^◌, ◌⊎◌, [], IfOk, OnOk, IfErr, IfSome, count_by, vec_len, vec_capacity, None, MatchOption};
 ghost use Rattle.std.specs.Arc.{arc_value};
-ghost use Rattle.mcv_base.specs.Reply.{fixed_value, not_found, part_value};
-ghost use Rattle.mcv_base.specs.declared.reply.FixedReply.TheVariants.{Lost as lost_reply};
 ghost use Rattle.mcv_pools.specs.Hash.{fnv_index};
-ghost use Rattle.mcv_queues.specs.Marks.{checked_mark, no_mark};
-ghost use Rattle.mcv_queues.specs.Numbers.{IsLeast};
-ghost use Rattle.mcv_route.specs.Eras.{breaks_of, since_at};
-ghost use Rattle.mcv_world.specs.Moves.{is_move, Taken as taken_move};
-ghost use Rattle.mcv_world.specs.World.{put};
-ghost use Rattle.mcv_events.specs.Rows as rows;
-ghost use Rattle.mcv_events.specs.Rows.{world_of};
-ghost use Rattle.mcv_core.specs.Asking.{IsRefusedFor};
-ghost use Rattle.mcv_core.specs.CoreView.{Does, IsQuiet, Moved, Unmoved, answer_at, in_row_state, is_spooled, is_waiting, loss_at, refusing_at, spooling_at, with_mark};
+ghost use Rattle.mcv_symbolic.specs.CoveredRoutes.{AreCovered};
+ghost use Rattle.mcv_core.specs.Events.{IsAnsweredLeg, IsBegun, IsClocked, IsLostLeg, IsMarked, IsNext, IsRefusedLeg, IsReplay, IsSpooledLeg, IsTaken, IsUnmarked};
 ghost use Rattle.mcv_core.specs.Opening.{opened_view};
-ghost use Rattle.mcv_core.specs.Chapters.{CanTurn, era_move, in_era, spooled_legs};
-ghost use Rattle.mcv_core.specs.View.{core_view, records_after, records_of};
+ghost use Rattle.mcv_core.specs.View.{core_view};
 ghost use Rattle.mcv_core.specs.declared.fault.CoreFault.TheVariants.{Memory as OutOfMemory};
-ghost use Rattle.mcv_hub.specs.History.{era_entry, with_entry};
+ghost use Rattle.mcv_hub.specs.Events.{IsHubEvent, IsHubTurn, IsReceived, IsRequested, taken_part};
+ghost use Rattle.mcv_hub.specs.History.{is_began, is_taken};
 ghost use Rattle.mcv_hub.specs.RemainingEntries.{break_count};
 ghost use Rattle.mcv_hub.specs.Receipts.{ArePassed, AreRefused};
 
-use crate::core_events;
-use crate::core_events::{count_breaks, open};
 use crate::entry::Entry;
-use crate::history::{count_began, count_taken, era_entry, leg_entry, write};
+use crate::history::{change_of, count_began, count_taken, era_entry, leg_entry, write};
 use crate::receipts::{Receipt, ReceiptFault, Report, count_older};
 use crate::reply::LegReply;
 use crate::seat::{Asked, Seat, TakenReply};
@@ -83,6 +72,14 @@ impl<B: Ledger, T: Ledger> Model for HubState<B, T> {
     ghost invariant = { λ s. IsHub (core_view s.core.dispatcher) s.history.items s.chapter s.begun.total s.taken.total s.begun_before s.taken_before × HasRoom (vec_len s.history) (vec_capacity s.history) s.places (may_write (core_view s.core.dispatcher)) × (s.breaks ≡ break_count (core_view s.core.dispatcher).routes) };
 }
 
+/// How many breaks the routes have, which are covered.
+fn count_breaks(accepted: &Accepted) -> usize
+    ensures count { result ≡ break_count accepted.now }
+    ensures covered { AreCovered accepted.now }
+{
+    accepted.routes().breaks().len()
+}
+
 /// Makes room in a history for so many entries beside its places. The one error is Memory, and it leaves the entries.
 fn make_room(history: &mut Vec<Entry>, places: usize, left: usize) -> Result<(), CoreFault>
     requires { vec_len history.old ≤ places }
@@ -125,12 +122,11 @@ fn places_for(one: usize, other: usize) -> Option<usize>
 }
 
 impl<B: Ledger, T: Ledger> HubState<B, T> {
-    ghost use Rattle.mcv_hub.specs.State.{BeginsOne, HistoryKeepsDeletes, IsCallOf, IsLegEvent, IsSame, IsSameBooks, IsSameChapter, Replies};
-    ghost use Rattle.mcv_hub.specs.declared.entry.Entry.TheVariants.{Taken as taken_entry};
+    ghost use Rattle.mcv_hub.specs.State.{HistoryKeepsDeletes, IsCallOf, IsSame};
 
     /// A core over these routes with the records that the spool held, in its first chapter, and the shares that count all
     /// its calls and replies. The one error is Memory.
-    pub fn new(
+    pub(crate) fn new(
         alloc: Global,
         accepted: Arc<Accepted>,
         records: &[(u64, SpoolRecord)],
@@ -146,7 +142,7 @@ impl<B: Ledger, T: Ledger> HubState<B, T> {
         ensures err { IfErr result (λ fault. fault ≡ OutOfMemory) }
     {
         let breaks = count_breaks(&accepted);
-        let core = open(alloc, accepted, records)?;
+        let core = Core::new(alloc, accepted, Fnv, records)?;
         let Some(places) = places_for(core.state().entries(), breaks) else {
             return Err(CoreFault::Memory);
         };
@@ -170,29 +166,25 @@ impl<B: Ledger, T: Ledger> HubState<B, T> {
     }
 
     /// The core, for its readers.
-    pub fn core(&self) -> &Dispatcher
+    pub(crate) fn core(&self) -> &Dispatcher
         ensures { result.now ≡ self.now.core }
     {
         self.core.state()
     }
 
-    /// Begins a call for one key of the request, counted from 0, and counts it in the seat's share. An error is that of the
-    /// core, and Memory where the history gets no room.
-    pub fn begin(
+    /// A call begins, and is counted in the seat's share; where the history gets no room it is Memory.
+    pub(crate) fn begin(
         &mut self,
         alloc: Global,
         seat: &mut Seat<B, T>,
         request: Arc<Request>,
         key: usize,
     ) -> Result<CallId, CoreFault>
-        ensures begins { IfOk result (BeginsOne self.old self.new request key) }
-        ensures counted { OnOk result ((self.new.begun ≡ self.old.begun + 1) × (self.new.taken ≡ self.old.taken)) }
-        ensures shared { OnOk result ((seat.new.begun.amount ≡ seat.old.begun.amount + 1) × (seat.new.taken.amount ≡ seat.old.taken.amount)) }
+        ensures event { IsHubEvent (IsBegun (core_view self.old.core) fnv_index (arc_value request) key result) self.old self.new }
+        ensures entry { OnOk result (IsRequested self.old self.new request key) }
+        ensures begun { seat.new.begun.amount + self.old.begun ≡ seat.old.begun.amount + self.new.begun }
+        ensures taken { seat.new.taken.amount + self.old.taken ≡ seat.old.taken.amount + self.new.taken }
         ensures parts { (seat.new.begun.parts ≡ seat.old.begun.parts) × (seat.new.taken.parts ≡ seat.old.taken.parts) }
-        ensures chapter { IsSameChapter self.old self.new }
-        ensures refused { IfErr result (IsRefusedFor (core_view self.old.core) fnv_index (arc_value request) key) }
-        ensures err { OnErr result (IsSame self.old self.new) }
-        ensures unshared { OnErr result ((seat.new.begun.amount ≡ seat.old.begun.amount) × (seat.new.taken.amount ≡ seat.old.taken.amount)) }
     {
         let entries = self.core.state().entries();
         let left = ENTRY_LIMIT.saturating_sub(entries);
@@ -200,12 +192,13 @@ impl<B: Ledger, T: Ledger> HubState<B, T> {
         let Ok(shared) = Arc::try_clone(&request) else {
             return Err(CoreFault::Memory);
         };
-        let call = core_events::begin(&mut self.core, alloc, request, key)?;
+        let call = self.core.begin(alloc, request, key)?;
         self.history.push_reserved(Entry::Began {
             request: shared,
             key,
         });
-        self.places += self.core.state().entries() - entries;
+        let reserved = self.core.state().entries() - entries;
+        self.places += reserved;
         self.begun.add(&mut seat.begun, 1);
         Ok(call)
     }
@@ -225,29 +218,20 @@ impl<B: Ledger, T: Ledger> HubState<B, T> {
         }
     }
 
-    /// Takes the reply to a running call, once, and counts it in the seat's share; None where the call has none, or it
-    /// was taken. It takes no memory. An error is NoSuchCall, where the call doesn't run.
-    pub fn take_reply(
+    /// The reply to a call is taken, and counted in the seat's share.
+    pub(crate) fn take_reply(
         &mut self,
         seat: &mut Seat<B, T>,
         call: CallId,
     ) -> Result<Option<TakenReply>, CoreFault>
-        ensures moves { IfOk result (λ o. IfSome o (λ t. Moved (core_view self.old.core) (core_view self.new.core) (taken_move call.0))) }
-        ensures history { IfOk result (λ o. IfSome o (λ t. self.new.history ≡ self.old.history ++ taken_entry call ∷ [])) }
-        ensures receipt { IfOk result (λ o. IfSome o (λ t. (t.receipt.chapter ≡ self.old.chapter) × (t.receipt.entry ≡ length self.old.history) × (t.receipt.call ≡ call))) }
-        ensures reply { IfOk result (λ o. IfSome o (λ t. Replies self.old call.0 (part_value t.reply))) }
-        ensures call { IfOk result (λ o. IfSome o (λ t. IsCallOf self.old call.0 t.asked.op t.asked.route t.asked.rest)) }
-        ensures shared { IfOk result (λ o. IfSome o (λ t. (seat.new.taken.amount ≡ seat.old.taken.amount + 1) × (seat.new.begun.amount ≡ seat.old.begun.amount))) }
-        ensures counted { IfOk result (λ o. IfSome o (λ t. (self.new.taken ≡ self.old.taken + 1) × (self.new.begun ≡ self.old.begun))) }
+        ensures event { IsHubEvent (IsTaken (core_view self.old.core) call (taken_part result)) self.old self.new }
+        ensures receipt { IfOk result (λ o. IfSome o (IsReceived self.old call)) }
+        ensures begun { seat.new.begun.amount + self.old.begun ≡ seat.old.begun.amount + self.new.begun }
+        ensures taken { seat.new.taken.amount + self.old.taken ≡ seat.old.taken.amount + self.new.taken }
         ensures parts { (seat.new.begun.parts ≡ seat.old.begun.parts) × (seat.new.taken.parts ≡ seat.old.taken.parts) }
-        ensures chapter { IsSameChapter self.old self.new }
-        ensures none { IfOk result (λ o. IfNone o (IsSame self.old self.new × (is_move (core_view self.old.core).routes (world_of (core_view self.old.core).rows) (taken_move call.0) ≡ false))) }
-        ensures err { IfErr result (λ fault. IsSame self.old self.new × (fault ≡ CoreFault.NoSuchCall) × ((core_view self.old.core).rows.calls call.0 ≡ None)) }
-        ensures unshared { IfOk result (λ o. IfNone o ((seat.new.begun.amount ≡ seat.old.begun.amount) × (seat.new.taken.amount ≡ seat.old.taken.amount))) }
-        ensures unshared_err { OnErr result ((seat.new.begun.amount ≡ seat.old.begun.amount) × (seat.new.taken.amount ≡ seat.old.taken.amount)) }
     {
         let asked = self.asked_by(call)?;
-        let found = core_events::take(&mut self.core, call)?;
+        let found = self.core.events().take(call)?;
         let Some(reply) = found else {
             return Ok(None);
         };
@@ -265,142 +249,92 @@ impl<B: Ledger, T: Ledger> HubState<B, T> {
         }))
     }
 
-    /// Sends the first leg that waits for a server: the one with the least number. An error is Busy, where a leg of the
-    /// server is in flight, or NothingWaiting.
-    pub fn next(&mut self, server: ServerId) -> Result<LegId, CoreFault>
-        ensures first { IfOk result (λ leg. IsLeast (λ n. is_waiting server.0 ((core_view self.old.core).rows.legs n)) (Some leg.0)) }
-        ensures view { IfOk result (λ leg. core_view self.new.core ≡ record (core_view self.old.core) { rows = in_row_state (core_view self.old.core).rows leg.0 rows.Sent; flights = put (core_view self.old.core).flights server.0 (Some leg.0) }) }
-        ensures does { OnOk result (Unmoved (core_view self.old.core) (core_view self.new.core)) }
-        ensures free { OnOk result ((core_view self.old.core).flights server.0 ≡ None) }
-        ensures busy { IfErr result (λ fault. fault ≡ CoreFault.Busy → IsSome ((core_view self.old.core).flights server.0)) }
-        ensures nothing { IfErr result (λ fault. fault ≡ CoreFault.NothingWaiting → ((core_view self.old.core).flights server.0 ≡ None) × IsLeast (λ n. is_waiting server.0 ((core_view self.old.core).rows.legs n)) None) }
-        ensures only { IfErr result (λ fault. (fault ≡ CoreFault.Busy) ⊎ (fault ≡ CoreFault.NothingWaiting)) }
-        ensures history { self.new.history ≡ self.old.history }
-        ensures books { IsSameBooks self.old self.new }
-        ensures records { records_of self.new.core ≡ records_of self.old.core }
-        ensures err { OnErr result (IsSame self.old self.new) }
+    /// A waiting leg is sent.
+    pub(crate) fn next(&mut self, server: ServerId) -> Result<LegId, CoreFault>
+        ensures { IsHubEvent (IsNext (core_view self.old.core) server result) self.old self.new }
     {
-        core_events::next(&mut self.core, server)
+        self.core.events().next(server)
     }
 
-    /// Sends the first leg of a server that is in the spool: the one with the least number. It stays in the spool. Errors
-    /// are those of `next`.
-    pub fn replay(&mut self, server: ServerId) -> Result<LegId, CoreFault>
-        ensures first { IfOk result (λ leg. IsLeast (λ n. is_spooled server.0 ((core_view self.old.core).rows.legs n)) (Some leg.0)) }
-        ensures view { IfOk result (λ leg. core_view self.new.core ≡ record (core_view self.old.core) { flights = put (core_view self.old.core).flights server.0 (Some leg.0) }) }
-        ensures does { OnOk result (Unmoved (core_view self.old.core) (core_view self.new.core)) }
-        ensures free { OnOk result ((core_view self.old.core).flights server.0 ≡ None) }
-        ensures busy { IfErr result (λ fault. fault ≡ CoreFault.Busy → IsSome ((core_view self.old.core).flights server.0)) }
-        ensures nothing { IfErr result (λ fault. fault ≡ CoreFault.NothingWaiting → ((core_view self.old.core).flights server.0 ≡ None) × IsLeast (λ n. is_spooled server.0 ((core_view self.old.core).rows.legs n)) None) }
-        ensures only { IfErr result (λ fault. (fault ≡ CoreFault.Busy) ⊎ (fault ≡ CoreFault.NothingWaiting)) }
-        ensures history { self.new.history ≡ self.old.history }
-        ensures books { IsSameBooks self.old self.new }
-        ensures records { records_of self.new.core ≡ records_of self.old.core }
-        ensures err { OnErr result (IsSame self.old self.new) }
+    /// A leg in the spool is sent.
+    pub(crate) fn replay(&mut self, server: ServerId) -> Result<LegId, CoreFault>
+        ensures { IsHubEvent (IsReplay (core_view self.old.core) server result) self.old self.new }
     {
-        core_events::replay(&mut self.core, server)
+        self.core.events().replay(server)
     }
 
-    /// A leg in flight was answered. It takes no memory. An error is NoSuchLeg, where the leg isn't in flight.
-    pub fn answered(&mut self, leg: LegId, reply: LegReply) -> Result<Step, CoreFault>
-        ensures event { IsLegEvent (answer_at (core_view self.old.core) leg.0 reply) reply leg self.old self.new result }
-        ensures records { IfOk result (λ step. records_of self.new.core ≡ records_after step.state leg.0 (records_of self.old.core)) }
-        ensures kept { OnErr result (records_of self.new.core ≡ records_of self.old.core) }
+    /// A leg in flight was answered.
+    pub(crate) fn answered(&mut self, leg: LegId, reply: LegReply) -> Result<Step, CoreFault>
+        ensures { IsHubEvent (IsAnsweredLeg (core_view self.old.core) leg reply result) self.old self.new }
     {
         let (parts, part) = reply.into_parts();
-        let step = core_events::answered(&mut self.core, leg, parts)?;
-        write(&mut self.history, leg_entry(leg, part, step.change));
-        Ok(step)
+        let answer = self.core.events().answered(leg, parts);
+        write(&mut self.history, leg_entry(leg, part, change_of(&answer)));
+        answer
     }
 
-    /// A leg in flight was lost. It takes no memory. An error is NoSuchLeg, where the leg isn't in flight.
-    pub fn lost(&mut self, leg: LegId) -> Result<Step, CoreFault>
-        ensures event { IsLegEvent (loss_at (core_view self.old.core) leg.0) (fixed_value lost_reply) leg self.old self.new result }
-        ensures records { IfOk result (λ step. records_of self.new.core ≡ records_after step.state leg.0 (records_of self.old.core)) }
-        ensures kept { OnErr result (records_of self.new.core ≡ records_of self.old.core) }
+    /// A leg in flight was lost.
+    pub(crate) fn lost(&mut self, leg: LegId) -> Result<Step, CoreFault>
+        ensures { IsHubEvent (IsLostLeg (core_view self.old.core) leg result) self.old self.new }
     {
-        let step = core_events::lost(&mut self.core, leg)?;
+        let answer = self.core.events().lost(leg);
         write(
             &mut self.history,
-            leg_entry(leg, Part::Fixed(FixedReply::Lost), step.change),
+            leg_entry(leg, Part::Fixed(FixedReply::Lost), change_of(&answer)),
         );
-        Ok(step)
+        answer
     }
 
-    /// A held leg is stored in the spool, where the record is its server's text and its rest. The leg keeps the record's
-    /// number. It takes no memory. An error is NoSuchLeg, where the leg isn't held, or the record is another one.
-    pub fn spooled(&mut self, leg: LegId, stored: Stored) -> Result<Step, CoreFault>
-        ensures event { IsLegEvent (spooling_at (core_view self.old.core) leg.0 stored.«record».server stored.«record».rest) not_found leg self.old self.new result }
-        ensures records { IfOk result (λ step. records_of self.new.core ≡ put (records_of self.old.core) leg.0 (Some stored.seq)) }
-        ensures kept { OnErr result (records_of self.new.core ≡ records_of self.old.core) }
+    /// The spool took a held leg.
+    pub(crate) fn spooled(&mut self, leg: LegId, stored: Stored) -> Result<Step, CoreFault>
+        ensures { IsHubEvent (IsSpooledLeg (core_view self.old.core) leg stored result) self.old self.new }
     {
-        let step = core_events::spooled(&mut self.core, leg, stored)?;
+        let answer = self.core.events().spooled(leg, stored);
         write(
             &mut self.history,
-            leg_entry(leg, Part::Fixed(FixedReply::NotFound), step.change),
+            leg_entry(leg, Part::Fixed(FixedReply::NotFound), change_of(&answer)),
         );
-        Ok(step)
+        answer
     }
 
-    /// The spool refused a held leg: its call records an error, unless it has an outcome. It takes no memory. An error is
-    /// NoSuchLeg, where the leg isn't held.
-    pub fn spool_refused(&mut self, leg: LegId) -> Result<Step, CoreFault>
-        ensures event { IsLegEvent (refusing_at (core_view self.old.core) leg.0) (fixed_value lost_reply) leg self.old self.new result }
-        ensures records { records_of self.new.core ≡ records_of self.old.core }
+    /// The spool refused a held leg.
+    pub(crate) fn spool_refused(&mut self, leg: LegId) -> Result<Step, CoreFault>
+        ensures { IsHubEvent (IsRefusedLeg (core_view self.old.core) leg result) self.old self.new }
     {
-        let step = core_events::spool_refused(&mut self.core, leg)?;
+        let answer = self.core.events().spool_refused(leg);
         write(
             &mut self.history,
-            leg_entry(leg, Part::Fixed(FixedReply::Lost), step.change),
+            leg_entry(leg, Part::Fixed(FixedReply::Lost), change_of(&answer)),
         );
-        Ok(step)
+        answer
     }
 
-    /// Marks the server where three or more failures came in a row.
-    pub fn mark(&mut self, server: ServerId)
-        ensures view { core_view self.new.core ≡ with_mark (core_view self.old.core) server.0 checked_mark }
-        ensures history { self.new.history ≡ self.old.history }
-        ensures books { IsSameBooks self.old self.new }
+    /// The server is marked.
+    pub(crate) fn mark(&mut self, server: ServerId)
+        ensures { IsHubEvent (IsMarked (core_view self.old.core) server) self.old self.new }
     {
-        core_events::mark(&mut self.core, server)
+        self.core.events().mark(server)
     }
 
-    /// Takes the server's mark away, and its failures with it.
-    pub fn unmark(&mut self, server: ServerId)
-        ensures view { core_view self.new.core ≡ with_mark (core_view self.old.core) server.0 (λ m. no_mark) }
-        ensures history { self.new.history ≡ self.old.history }
-        ensures books { IsSameBooks self.old self.new }
+    /// The server's mark is taken away.
+    pub(crate) fn unmark(&mut self, server: ServerId)
+        ensures { IsHubEvent (IsUnmarked (core_view self.old.core) server) self.old self.new }
     {
-        core_events::unmark(&mut self.core, server)
+        self.core.events().unmark(server)
     }
 
-    /// Later calls have the era of this moment. Gives the era where it is another one. It takes no memory. An error is
-    /// ClockBack, where the moment is earlier than the core's.
-    pub fn clock(&mut self, moment: Moment) -> Result<Option<Era>, CoreFault>
-        ensures view { OnOk result (core_view self.new.core ≡ record (in_era (core_view self.old.core) (since_at (breaks_of (core_view self.old.core).routes) moment.0)) { moment = moment.0 }) }
-        ensures does { IfOk result (λ era. Does (core_view self.old.core) (core_view self.new.core) (era_move era)) }
-        ensures history { IfOk result (λ era. self.new.history ≡ with_entry self.old.history (era_entry era)) }
-        ensures books { IsSameBooks self.old self.new }
-        ensures back { IfErr result (λ fault. (fault ≡ CoreFault.ClockBack) × (moment.0 < (core_view self.old.core).moment)) }
-        ensures err { OnErr result (IsSame self.old self.new) }
+    /// Later calls have the era of this moment.
+    pub(crate) fn clock(&mut self, moment: Moment) -> Result<Option<Era>, CoreFault>
+        ensures { IsHubEvent (IsClocked (core_view self.old.core) moment result) self.old self.new }
     {
-        let era = core_events::clock(&mut self.core, moment)?;
-        write(&mut self.history, era_entry(era));
-        Ok(era)
+        let answer = self.core.events().clock(moment);
+        write(&mut self.history, era_entry(&answer));
+        answer
     }
 
-    /// A new chapter begins, with an empty history, where no call runs, no leg is queued and none is in replay. It takes no
-    /// memory. An error is Busy; it comes also where 2^63 calls were begun or replies taken, or no chapter has a greater
-    /// number.
-    pub fn turn(&mut self) -> Result<(), CoreFault>
-        ensures view { OnOk result (core_view self.new.core ≡ record (core_view self.old.core) { chapter = (core_view self.old.core).chapter + 1; entries = spooled_legs (core_view self.old.core).rows }) }
-        ensures does { OnOk result (Unmoved (core_view self.old.core) (core_view self.new.core)) }
-        ensures quiet { OnOk result (IsQuiet (core_view self.new.core)) }
-        ensures history { OnOk result ((self.new.history ≡ []) × (self.new.chapter ≡ self.old.chapter + 1)) }
-        ensures begun { OnOk result ((self.new.begun ≡ self.old.begun) × (self.new.begun_before ≡ self.old.begun)) }
-        ensures taken { OnOk result ((self.new.taken ≡ self.old.taken) × (self.new.taken_before ≡ self.old.taken)) }
-        ensures busy { IfErr result (λ fault. (fault ≡ CoreFault.Busy) × (CanTurn (core_view self.old.core) → (2 ^ 63 ≤ self.old.begun) ⊎ (2 ^ 63 ≤ self.old.taken))) }
-        ensures err { OnErr result (IsSame self.old self.new) }
+    /// A new chapter begins.
+    pub(crate) fn turn(&mut self) -> Result<(), CoreFault>
+        ensures { IsHubTurn self.old result self.new }
     {
         // Asked first, since the totals go through the history.
         if !self.core.state().is_at_rest() {
@@ -413,7 +347,7 @@ impl<B: Ledger, T: Ledger> HubState<B, T> {
         if begun > MOST_COUNTED || taken > MOST_COUNTED {
             return Err(CoreFault::Busy);
         }
-        core_events::turn(&mut self.core)?;
+        self.core.events().turn()?;
         self.history.clear();
         self.places = turned_places(self.places, self.core.state().entries(), self.breaks);
         self.chapter = chapter;
@@ -434,9 +368,8 @@ impl<B: Ledger, T: Ledger> HubState<B, T> {
         )
     }
 
-    /// How many calls were begun and replies taken in all chapters, where all receipts that aren't of earlier chapters
-    /// are good and no two name one entry. It changes nothing.
-    pub fn close(
+    /// What the books and the receipts say; it changes nothing.
+    pub(crate) fn close(
         &mut self,
         alloc: Global,
         begun: &mut Share<B>,
@@ -464,14 +397,16 @@ impl<B: Ledger, T: Ledger> HubState<B, T> {
     }
 
     /// The entries of the chapter, the oldest first.
-    pub fn history(&self) -> &[Entry]
-        ensures { result.now ≡ self.now.history }
+    pub(crate) fn history(&self) -> &[Entry]
+        ensures history { result.now ≡ self.now.history }
+        ensures begun { self.now.begun ≡ self.now.begun_before + count_by is_began result.now }
+        ensures taken { self.now.taken ≡ self.now.taken_before + count_by is_taken result.now }
     {
         self.history.as_slice()
     }
 
-    /// Deletes are kept in the world that the history leads to, and the core's calls and legs are what is left of it.
-    pub fn deletes_are_kept(&self)
+    /// Deletes are kept in the world that the history leads to.
+    pub(crate) fn deletes_are_kept(&self)
         ensures { HistoryKeepsDeletes (core_view self.now.core) self.now.history }
     {
         let _core = &self.core;

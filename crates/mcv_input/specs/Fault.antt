@@ -13,7 +13,7 @@ use Rattle.mcv_config.specs.ConfigValue.{ConfigValue}
 use Rattle.mcv_route.specs.NamedRoutes.{routes_named}
 use Rattle.mcv_route.specs.Routes.{RoutesValue}
 use Rattle.mcv_input.specs.declared.fault.RunFault.{RunFault}
-use Rattle.mcv_input.specs.declared.fault.RunFault.TheVariants.{Line, NoRoute, Config, CertificateText, Certificate, Memory, Device}
+use Rattle.mcv_input.specs.declared.fault.RunFault.TheVariants.{Line, NoRoute, Config, CertificateText, Certificate, Window, Memory, Device}
 
 abbrev pub run_fault_number : RunFault → ℕ
 run_fault_number Line = 1
@@ -23,6 +23,7 @@ run_fault_number (CertificateText fault) = 4
 run_fault_number (Certificate fault) = 5
 run_fault_number Memory = 6
 run_fault_number Device = 7
+run_fault_number Window = 8
 
 -- 1: the request is at fault, 2: the configuration, 4: what the program depends on, 5: the certificate
 abbrev pub run_fault_status : RunFault → ℕ
@@ -31,6 +32,7 @@ run_fault_status NoRoute = 2
 run_fault_status (Config fault) = 2
 run_fault_status (CertificateText fault) = 5
 run_fault_status (Certificate fault) = 5
+run_fault_status Window = 5
 run_fault_status Memory = 4
 run_fault_status Device = 4
 
@@ -40,6 +42,7 @@ run_fault_text NoRoute = codes "no route"
 run_fault_text (Config fault) = codes "configuration " ++ decimal (fault_number fault) ++ codes " at " ++ fault_path fault
 run_fault_text (CertificateText fault) = codes "certificate text " ++ decimal (cert_text.fault_number fault) ++ codes " line " ++ decimal (cert_text.fault_line fault)
 run_fault_text (Certificate fault) = codes "certificate fault " ++ decimal (number_of fault)
+run_fault_text Window = codes "certificate fault 7"
 run_fault_text Memory = codes "out of memory"
 run_fault_text Device = codes "device failed"
 
@@ -74,5 +77,6 @@ IsInputFault text NoRoute = ⊥
 IsInputFault text (Config fault) = IsConfigFault text fault
 IsInputFault text (CertificateText fault) = ⊥
 IsInputFault text (Certificate fault) = ⊥
+IsInputFault text Window = ⊥
 IsInputFault text Memory = ⊤
 IsInputFault text Device = ⊤

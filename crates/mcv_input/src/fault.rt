@@ -24,6 +24,8 @@ pub enum RunFault {
     CertificateText(CertTextFault),
     /// The first fault in the certificate.
     Certificate(PairFault),
+    /// The certificate is for another window.
+    Window,
     /// Memory ran out, in whatever part.
     Memory,
     /// A reader, a writer, a file or the address of the proxy failed.
@@ -43,6 +45,7 @@ impl RunFault {
             RunFault::Certificate(_) => 5,
             RunFault::Memory => 6,
             RunFault::Device => 7,
+            RunFault::Window => 8,
         }
     }
 
@@ -54,7 +57,7 @@ impl RunFault {
             RunFault::Line => 1,
             RunFault::NoRoute | RunFault::Config(_) => 2,
             RunFault::Memory | RunFault::Device => 4,
-            RunFault::CertificateText(_) | RunFault::Certificate(_) => 5,
+            RunFault::CertificateText(_) | RunFault::Certificate(_) | RunFault::Window => 5,
         }
     }
 }
@@ -80,6 +83,7 @@ impl fmt::Display for RunFault {
                 let number = fault.number();
                 write!(f, "certificate fault {number}")
             }
+            RunFault::Window => write!(f, "certificate fault 7"),
             RunFault::Memory => write!(f, "out of memory"),
             RunFault::Device => write!(f, "device failed"),
         }

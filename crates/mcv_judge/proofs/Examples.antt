@@ -15,7 +15,7 @@ abbrev second_leg : LegValue
 second_leg = record { position = 0 ∷ 1 ∷ []; symbol = 1; servers = 8 ∷ [] }
 
 abbrev spot : SpotValue
-spot = record { route = 0; class = []; era = 0 }
+spot = record { route = 0; class = []; era = 0; get_era = 0 }
 
 abbrev block : BlockValue
 block = record { spot = spot; readable = hashed ∷ []; acknowledged = first_leg ∷ second_leg ∷ []; can_be_acknowledged = true }

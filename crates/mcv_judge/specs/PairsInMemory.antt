@@ -22,7 +22,7 @@ abbrev pub legs_of : List Leg → List LegValue
 legs_of ls = map leg_of ls
 
 abbrev pub spot_of : Spot → SpotValue
-spot_of s = record { route = s.route; class = s.class.now; era = s.era }
+spot_of s = record { route = s.route; class = s.class.now; era = s.era; get_era = s.get_era }
 
 abbrev pub block_of : Block → BlockValue
 block_of b = record { spot = spot_of b.spot; readable = legs_of b.readable.now; acknowledged = legs_of b.acknowledged.now; can_be_acknowledged = b.can_be_acknowledged }

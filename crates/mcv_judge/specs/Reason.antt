@@ -19,7 +19,7 @@ pub record LegValue : Type 0 where
   pub symbol : ℕ
   pub servers : List ℕ
 
--- what a route gives for the rests of a class in an era: the legs from which a get or gets can be answered, those that every delete that has a reply has sent, and whether a delete can be acknowledged
+-- what a route gives for the rests of a class in an era: the legs from which a get, gets, incr or decr can be answered, those that every delete that has a reply has sent, and whether a delete can be acknowledged
 pub record BlockValue : Type 0 where
   pub spot : SpotValue
   pub readable : List LegValue

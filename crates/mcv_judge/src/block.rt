@@ -1,4 +1,4 @@
-//! What a route has for one class and era. What it means: `block_of` of specs/PairsInMemory.antt.
+//! What a route has for one class, with a delete in one era and a get in another. What it means: `block_of` of specs/PairsInMemory.antt.
 
 use mcv_base::{Position, ServerId};
 
@@ -12,22 +12,24 @@ pub struct Leg<'a> {
     pub servers: &'a [ServerId],
 }
 
-/// What a block is of: the rests of a class of a route, in an era.
+/// What a block is of: the rests of a class of a route, with a delete in one era and a get in another.
 #[derive(Clone, Copy)]
 pub struct Spot<'a> {
     /// The number of the route, from 0.
     pub route: usize,
     /// The class word.
     pub class: &'a [u8],
-    /// The number of the era, from 0.
+    /// The number of the delete's era, from 0.
     pub era: usize,
+    /// The number of the get's era, from 0.
+    pub get_era: usize,
 }
 
 /// What a route has at a spot.
 #[derive(Clone, Copy)]
 pub struct Block<'a> {
     pub spot: Spot<'a>,
-    /// The legs from which a get or gets can be answered, in the order of their positions.
+    /// The legs from which a get, gets, incr or decr can be answered, in the order of their positions.
     pub readable: &'a [Leg<'a>],
     /// The legs that every delete that has a reply has sent, in the order of their positions.
     pub acknowledged: &'a [Leg<'a>],

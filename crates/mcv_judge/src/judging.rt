@@ -23,6 +23,7 @@ fn compare(pair: &Pair, block: &Block, leaf: &Leg, index: usize) -> Ordering
         .cmp(&block.spot.route)
         .then(pair.place.class.as_slice().cmp(block.spot.class))
         .then(pair.place.era.cmp(&block.spot.era))
+        .then(pair.place.get_era.cmp(&block.spot.get_era))
         .then(pair.place.leaf.steps().cmp(leaf.position.steps()))
         .then(pair.reason.index().cmp(&index))
 }

@@ -5,14 +5,14 @@ use Rattle.std.proofs.lemmas.Bool.{cases_lt}
 use Rattle.std.proofs.lemmas.Bool.Decides.{nat_tests}
 use Rattle.std.proofs.lemmas.List.{take-append-drop}
 use Rattle.mcv_base.specs.declared.operation.Op.{Op}
-use Rattle.mcv_base.specs.declared.operation.Op.TheVariants.{Get, Gets, Set, Add, Replace, Append, Prepend, Cas, Delete, Touch}
+use Rattle.mcv_base.specs.declared.operation.Op.TheVariants.{Get, Gets, Set, Add, Replace, Append, Prepend, Cas, Delete, Touch, Incr, Decr}
 use Rattle.mcv_base.specs.Operation.{op_name}
 use Rattle.mcv_base.specs.Key.{is_key_word}
 use Rattle.mcv_names.specs.declared.fault.ConfigFault.{ConfigFault}
 use Rattle.mcv_config.specs.Config.{size_limit}
 use Rattle.mcv_input.proofs.FirstBytes.{too_long_is_all, whole}
 use Rattle.mcv_input.specs.declared.fault.RunFault.{RunFault}
-use Rattle.mcv_input.specs.declared.fault.RunFault.TheVariants.{Line, NoRoute, Config, CertificateText, Certificate, Memory, Device}
+use Rattle.mcv_input.specs.declared.fault.RunFault.TheVariants.{Line, NoRoute, Config, CertificateText, Certificate, Window, Memory, Device}
 use Rattle.mcv_legs.specs.Answer.{IsAnswer, IsWithoutRoute}
 use Rattle.mcv_legs.specs.Fault.{IsMisconfigured, IsRunFault}
 use Rattle.mcv_legs.specs.Limits.{input_limit, line_limit}
@@ -32,6 +32,8 @@ name_len Prepend = omega arith
 name_len Cas = omega arith
 name_len Delete = omega arith
 name_len Touch = omega arith
+name_len Incr = omega arith
+name_len Decr = omega arith
 
 key_len : (key : List ℕ) → is_key_word key ≡ true → length key ≤ 250
 key_len key is =
@@ -131,5 +133,6 @@ fault_of_all bytes NoRoute is = without_route_of_all bytes is
 fault_of_all bytes (Config fault) m = misconfigured_of_all bytes fault m (cases_lt size_limit (length m.configuration))
 fault_of_all bytes (CertificateText fault) is = is
 fault_of_all bytes (Certificate fault) is = is
+fault_of_all bytes Window is = is
 fault_of_all bytes Memory is = tt
 fault_of_all bytes Device is = tt

@@ -6,7 +6,7 @@ use Rattle.std.specs.List.{list_all}
 use Rattle.std.specs.Str.{bytes_eq}
 use Rattle.memchr.specs.Find.{IsFirstByte, is_byte}
 use Rattle.mcv_base.specs.declared.operation.Op.{Op}
-use Rattle.mcv_base.specs.declared.operation.Op.TheVariants.{Get, Gets, Set, Add, Replace, Append, Prepend, Cas, Delete, Touch}
+use Rattle.mcv_base.specs.declared.operation.Op.TheVariants.{Get, Gets, Set, Add, Replace, Append, Prepend, Cas, Delete, Touch, Incr, Decr}
 use Rattle.mcv_base.specs.declared.key.KeyFault.{KeyFault}
 use Rattle.mcv_base.specs.declared.key.KeyFault.TheVariants.{Empty, TooLong, BadByte, NoRest}
 use Rattle.mcv_base.specs.Operation.{op_name}
@@ -36,6 +36,8 @@ name_lacks_line_feed Prepend = refl
 name_lacks_line_feed Cas = refl
 name_lacks_line_feed Delete = refl
 name_lacks_line_feed Touch = refl
+name_lacks_line_feed Incr = refl
+name_lacks_line_feed Decr = refl
 
 name_lacks_space : (op : Op) → lacks space (op_name op) ≡ true
 name_lacks_space Get = refl
@@ -48,6 +50,8 @@ name_lacks_space Prepend = refl
 name_lacks_space Cas = refl
 name_lacks_space Delete = refl
 name_lacks_space Touch = refl
+name_lacks_space Incr = refl
+name_lacks_space Decr = refl
 
 -- the bytes of a key word, and how many there are
 pub key_bytes : (key : List ℕ) → is_key_word key ≡ true → (nat_lt 0 (length key) ≡ true) × (nat_le (length key) 250 ≡ true) × (list_all is_key_byte key ≡ true)
@@ -114,7 +118,9 @@ op_of name =
     else if bytes_eq name (codes "prepend") then Prepend
     else if bytes_eq name (codes "cas") then Cas
     else if bytes_eq name (codes "delete") then Delete
-    else Touch
+    else if bytes_eq name (codes "touch") then Touch
+    else if bytes_eq name (codes "incr") then Incr
+    else Decr
 
 op_of-name : (op : Op) → op_of (op_name op) ≡ op
 op_of-name Get = refl
@@ -127,6 +133,8 @@ op_of-name Prepend = refl
 op_of-name Cas = refl
 op_of-name Delete = refl
 op_of-name Touch = refl
+op_of-name Incr = refl
+op_of-name Decr = refl
 
 -- operations differ by their names
 one_name : (op other : Op) → op_name op ≡ op_name other → op ≡ other

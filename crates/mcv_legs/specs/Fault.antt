@@ -3,7 +3,7 @@ use Rattle.std.specs.Prelude.{ℕ, List, ⊤}
 use Rattle.mcv_base.specs.declared.operation.Op.{Op}
 use Rattle.mcv_names.specs.declared.fault.ConfigFault.{ConfigFault}
 use Rattle.mcv_input.specs.declared.fault.RunFault.{RunFault}
-use Rattle.mcv_input.specs.declared.fault.RunFault.TheVariants.{Line, NoRoute, Config, CertificateText, Certificate, Memory, Device}
+use Rattle.mcv_input.specs.declared.fault.RunFault.TheVariants.{Line, NoRoute, Config, CertificateText, Certificate, Window, Memory, Device}
 use Rattle.mcv_input.specs.Fault.{IsConfigFault}
 use Rattle.mcv_legs.specs.Request.{Asks, IsNoRequest}
 use Rattle.mcv_legs.specs.Answer.{IsWithoutRoute}
@@ -24,5 +24,6 @@ IsRunFault input NoRoute = IsWithoutRoute input
 IsRunFault input (Config fault) = IsMisconfigured input fault
 IsRunFault input (CertificateText fault) = ⊥
 IsRunFault input (Certificate fault) = ⊥
+IsRunFault input Window = ⊥
 IsRunFault input Memory = ⊤
 IsRunFault input Device = ⊤

@@ -56,7 +56,7 @@ symbol-at (y ∷ ys) (suc s) low = symbol-at ys s (omega (arith, low))
 zero-plus : (s : ℕ) → 0 + s ≡ s
 zero-plus s = omega arith
 
-module _ (sizes : List ℕ) (t : Tree) (rest : List ℕ) (since : Option ℕ) (positive : All (λ n. 0 < n) sizes) (sized : AreSized sizes t) (b : BlockValue) (block : IsBlockAt t rest since b) (leaf : LegValue) (i x : ℕ) (has : server_at leaf i ≡ Some x)
+module _ (sizes : List ℕ) (t : Tree) (rest : List ℕ) (since read : Option ℕ) (positive : All (λ n. 0 < n) sizes) (sized : AreSized sizes t) (b : BlockValue) (block : IsBlockAt t rest since read b) (leaf : LegValue) (i x : ℕ) (has : server_at leaf i ≡ Some x)
     (unanswered : HasReason b leaf i → ⊥) (legs : List PlannedLeg) (are : (c : Choice) → AreLegsAt t (IsAcknowledged t rest since c) legs) where
   any_choice : Choice
   any_choice s = 0
@@ -80,7 +80,7 @@ module _ (sizes : List ℕ) (t : Tree) (rest : List ℕ) (since : Option ℕ) (p
   own-free : is_taken legs x leaf.symbol i ≡ false
   own-free =
       elim (cases_Bool (is_taken legs x leaf.symbol i)) [
-        | inl is ↦ let d = taken-there leaf.symbol i is in absurd (unanswered (reason_by_leg sizes t rest since positive sized b block leaf i d.0 d.1 d.2))
+        | inl is ↦ let d = taken-there leaf.symbol i is in absurd (unanswered (reason_by_leg sizes t rest since read positive sized b block leaf i d.0 d.1 d.2))
         | inr isnt ↦ isnt
       ]
 
@@ -88,7 +88,7 @@ module _ (sizes : List ℕ) (t : Tree) (rest : List ℕ) (since : Option ℕ) (p
   some-free s within =
       elim (free-or-full (is_taken legs x s) (slice_index sizes s)) [
         | inl free ↦ free
-        | inr full ↦ absurd (unanswered (reason_by_symbol sizes t rest since positive sized b block leaf i s within (λ j low. taken-there s j (full j low))))
+        | inr full ↦ absurd (unanswered (reason_by_symbol sizes t rest since read positive sized b block leaf i s within (λ j low. taken-there s j (full j low))))
       ]
 
   pub can : if_all Good (plan t (asked Delete rest since)) ≢ Error

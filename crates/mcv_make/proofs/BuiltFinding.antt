@@ -1,11 +1,11 @@
 -- The finding of a gap as the code builds it: each part is what is shown.
-use Rattle.std.proofs.Common.{◌≡◌, ℕ, true, List, ◌++◌, Option, Some, option_map, sym, ap, ◌∙◌}
+use Rattle.std.proofs.Common.{◌≡◌, ◌<◌, ℕ, true, List, ◌++◌, Option, Some, option_map, sym, ap, ◌∙◌}
 use Rattle.std.specs.Prelude.{option_and_then, slice_get}
 use Rattle.std.proofs.lemmas.Option.{same_Some}
 use Rattle.mcv_cert.specs.Pair.{place_of}
-use Rattle.mcv_base.specs.Operation.{is_reading}
+use Rattle.mcv_base.specs.Operation.{op_number, shows_value}
 use Rattle.mcv_base.specs.declared.operation.Op.{Op}
-use Rattle.mcv_base.specs.declared.operation.Op.TheVariants.{Delete, Get, Gets}
+use Rattle.mcv_base.specs.declared.operation.Op.TheVariants.{Delete}
 use Rattle.mcv_base.specs.declared.reply.Outcome.TheVariants.{Good}
 use Rattle.mcv_route.specs.Eras.{HasEra, IsEraOf}
 use Rattle.mcv_classes.specs.Class.{IsMember}
@@ -29,16 +29,17 @@ use Rattle.mcv_make.specs.ShownFinding.{IsShownWith}
 use Rattle.mcv_make.proofs.Gaps as gaps
 
 -- the finding at the gap with these parts
-abbrev pub finding_at : Gap → (key choice : List ℕ) → Op → (read deleted : History) → FindingValue
-finding_at g key choice op read deleted = record {
+abbrev pub finding_at : Gap → (window : ℕ) → (key choice : List ℕ) → Op → (answered deleted : History) → FindingValue
+finding_at g window key choice op answered deleted = record {
   place = place_of g.place;
   key = key;
   at = g.at;
   server = g.server.0;
   choice = choice;
   op = op;
-  gets = read;
+  gets = answered;
   deletes = deleted;
+  window = window;
 }
 
 module _ (r : RoutesValue) (g : Gap) (gap : IsGap r (place_of g.place) g.at g.server.0) (t : Tree) (here : Some t ≡ option_map (λ (e : RouteEntry). e.tree) (slice_get r.entries g.place.route)) where
@@ -51,21 +52,25 @@ module _ (r : RoutesValue) (g : Gap) (gap : IsGap r (place_of g.place) g.at g.se
   numbered : slice_get r.entries g.place.route ≡ Some entry
   numbered = gaps.numbered r g gap ∙ ap (λ (u : Tree). Some (record { aliases = (gaps.entry r g gap).aliases; tree = u })) (sym same-tree)
 
-  module _ (rest : List ℕ) (member : IsMember (class_words t) g.place.class.items (Some rest)) (since : Option ℕ) (era : HasEra r g.place.era → IsEraOf r g.place.era since) where
+  module _ (rest : List ℕ) (member : IsMember (class_words t) g.place.class.items (Some rest)) (since read : Option ℕ) (era : HasEra r g.place.era → IsEraOf r g.place.era since) (get_era : HasEra r g.place.get_era → IsEraOf r g.place.get_era read) where
     opened : IsEraOf r g.place.era since
     opened = era (gaps.has_era r g gap)
 
-    pub reads : IsReadableAt t rest since g.place.leaf
-    reads = gaps.readable r g gap entry rest since numbered (gaps.listed r g gap entry numbered) member opened
+    read_opened : IsEraOf r g.place.get_era read
+    read_opened = get_era (gaps.has_get_era r g gap)
 
-    module _ (pool : Pool) (pool_there : Some pool ≡ leaf_in r g.place.route g.place.leaf) (prefix key choice : List ℕ) (op : Op) (read deleted : History) (legs : List PlannedLeg) where
-      pub is_shown : IsRest rest → key ≡ prefix ++ rest → ((c : Choice) → AreLegsAt t (IsAcknowledged t rest since c) legs) → choice ≡ free_indexes legs g.server.0 pool.symbol g.at 0 r.symbols
-          → is_reading op ≡ true → (op ≡ Gets → (c : Choice) → CanHitAt t (asked Get rest since) c g.place.leaf → ⊥) → leaf_hit g.place.leaf (plan t (asked op rest since)) ≡ Some read
-          → deleted ≡ answers Good (plan t (asked Delete rest since)) → IsShownWith r prefix (finding_at g key choice op read deleted)
-      is_shown rest_is is_key are is_choice reading first led done = record {
+    pub reads : IsReadableAt t rest read g.place.leaf
+    reads = gaps.readable r g gap entry rest since read numbered (gaps.listed r g gap entry numbered) member opened read_opened
+
+    module _ (pool : Pool) (pool_there : Some pool ≡ leaf_in r g.place.route g.place.leaf) (window : ℕ) (prefix key choice : List ℕ) (op : Op) (answered deleted : History) (legs : List PlannedLeg) where
+      pub is_shown : window ≡ r.window → IsRest rest → key ≡ prefix ++ rest → ((c : Choice) → AreLegsAt t (IsAcknowledged t rest since c) legs) → choice ≡ free_indexes legs g.server.0 pool.symbol g.at 0 r.symbols
+          → shows_value op ≡ true → ((earlier : Op) → shows_value earlier ≡ true → op_number earlier < op_number op → (c : Choice) → CanHitAt t (asked earlier rest read) c g.place.leaf → ⊥) → leaf_hit g.place.leaf (plan t (asked op rest read)) ≡ Some answered
+          → deleted ≡ answers Good (plan t (asked Delete rest since)) → IsShownWith r prefix (finding_at g window key choice op answered deleted)
+      is_shown is_window rest_is is_key are is_choice reading first led done = record {
         entry = entry;
         rest = rest;
         since = since;
+        read = read;
         pool = pool;
         legs = legs;
         numbered = numbered;
@@ -73,6 +78,8 @@ module _ (r : RoutesValue) (g : Gap) (gap : IsGap r (place_of g.place) g.at g.se
         member = member;
         rest_is = rest_is;
         opened = opened;
+        read_opened = read_opened;
+        window = is_window;
         key = is_key;
         pool_there = sym (pool_there ∙ ap (option_and_then (λ (x : RouteEntry). pool_at_position x.tree g.place.leaf)) numbered);
         are = are;

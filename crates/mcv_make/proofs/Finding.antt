@@ -10,13 +10,15 @@ use Rattle.mcv_base.specs.declared.reply.Outcome.TheVariants.{Good}
 use Rattle.mcv_blocks.specs.Blocks.{IsBlockAt, IsSpotOf, pool_for}
 use Rattle.mcv_blocks.proofs.PoolSizes.{AreSized, entry_sized}
 use Rattle.mcv_blocks.proofs.OneListOfBlocks.{block_has, pool_of_leg}
-use Rattle.mcv_cert.specs.Pair.{PlaceValue, place_of}
+use Rattle.mcv_cert.specs.Pair.{PlaceValue, SpotValue, place_of}
 use Rattle.mcv_classes.proofs.Members.{members_are_inside}
 use Rattle.mcv_config.specs.Aliases.{IsAlias, alias_limit}
 use Rattle.mcv_config.specs.Entries.{depth_limit}
 use Rattle.mcv_judge.specs.Reason.{BlockValue, LegValue}
 use Rattle.mcv_certify.specs.Gap.{IsGap}
 use Rattle.mcv_certify.specs.declared.gap.Gap.{Gap}
+use Rattle.mcv_route.proofs.NearBreaks.{number_near}
+use Rattle.mcv_route.specs.Eras.{IsEraOf, IsNear}
 use Rattle.mcv_route.specs.Aliases.{AreSelected, first_alias}
 use Rattle.mcv_route.specs.Limits.{AreWithinLimits, IsWithin}
 use Rattle.mcv_route.specs.Outcomes.{History, IsChoice}
@@ -64,14 +66,23 @@ module _ (r : RoutesValue) (sound : IsSoundRoutes r) (limits : AreWithinLimits r
   there : Contains r.entries built.entry
   there = (f.place.spot.route, slice_get_within r.entries f.place.spot.route built.entry built.numbered, get_or_from_slice_get r.entries f.place.spot.route built.entry built.entry built.numbered)
 
-  at_spot : IsSpotOf r f.place.spot tree built.rest built.since
-  at_spot = record { entry = built.entry; numbered = built.numbered; has_tree = refl; listed = built.listed; has_member = built.member; opened = built.opened }
+  same-spot : b.spot ≡ f.place.spot
+  same-spot = ap (λ (p : PlaceValue). p.spot) gap.placed
 
-  block : IsBlockAt tree built.rest built.since b
-  block = block_has r f.place.spot tree built.rest built.since at_spot b gap.block_is (ap (λ (p : PlaceValue). p.spot) gap.placed)
+  near : IsNear r r.window built.since built.read
+  near =
+      let own = subst (λ (s : SpotValue). IsEraOf r s.era gap.block_is.since) same-spot gap.block_is.spot.opened in
+      let own_read = subst (λ (s : SpotValue). IsEraOf r s.get_era gap.block_is.read) same-spot gap.block_is.spot.read_opened in
+      number_near r r.window f.place.spot.era f.place.spot.get_era built.since built.read built.opened built.read_opened (gap.block_is.since, gap.block_is.read, own, own_read, gap.block_is.spot.near)
+
+  at_spot : IsSpotOf r f.place.spot tree built.rest built.since built.read
+  at_spot = record { entry = built.entry; numbered = built.numbered; has_tree = refl; listed = built.listed; has_member = built.member; opened = built.opened; read_opened = built.read_opened; near = near }
+
+  block : IsBlockAt tree built.rest built.since built.read b
+  block = block_has r f.place.spot tree built.rest built.since built.read at_spot b gap.block_is same-spot
 
   leaf-pool : pool_at_position tree leaf.position ≡ Some (pool_for leaf)
-  leaf-pool = pool_of_leg tree (IsReadableAt tree built.rest built.since) b.readable block.readable leaf gap.readable
+  leaf-pool = pool_of_leg tree (IsReadableAt tree built.rest built.read) b.readable block.readable leaf gap.readable
 
   same-pool : built.pool ≡ pool_for leaf
   same-pool = same_Some built.pool (pool_for leaf) (sym built.pool_there ∙ ap (pool_at_position tree) (sym at-leaf) ∙ leaf-pool)
@@ -88,7 +99,7 @@ module _ (r : RoutesValue) (sound : IsSoundRoutes r) (limits : AreWithinLimits r
   same-choice : free_indexes built.legs f.server leaf.symbol f.at 0 r.symbols ≡ f.choice
   same-choice = sym (built.choice ∙ ap (λ (q : Pool). free_indexes built.legs f.server q.symbol f.at 0 r.symbols) same-pool)
 
-  placed : IsAtPlace r f tree built.rest built.since
+  placed : IsAtPlace r f tree built.rest built.since built.read
   placed =
       let inside = members_are_inside tree f.place.spot.class built.rest built.member built.listed in
       let within : IsWithin depth_limit tree = All-contains (λ (e : RouteEntry). IsWithin depth_limit e.tree) r.entries built.entry limits.levels there in
@@ -102,6 +113,8 @@ module _ (r : RoutesValue) (sound : IsSoundRoutes r) (limits : AreWithinLimits r
         selects = selects;
         class = inside.0;
         era = built.opened;
+        get_era = built.read_opened;
+        near = subst (λ w. IsNear r w built.since built.read) (sym built.window) near;
       }
 
   is-leaf : IsLeafOf f tree
@@ -111,16 +124,16 @@ module _ (r : RoutesValue) (sound : IsSoundRoutes r) (limits : AreWithinLimits r
     index =
         ap (λ (q : Pool). slice_index f.choice q.symbol) same-pool
         ∙ ap (λ (ns : List ℕ). slice_index ns leaf.symbol) (sym same-choice)
-        ∙ gaps.own-at (sizes_of r) tree built.rest built.since positive sized b block leaf f.at f.server gap.has gap.unanswered built.legs built.are r.symbols refl size.0 low;
+        ∙ gaps.own-at (sizes_of r) tree built.rest built.since built.read positive sized b block leaf f.at f.server gap.has gap.unanswered built.legs built.are r.symbols refl size.0 low;
     server = ap (λ (q : Pool). slice_get q.servers f.at) same-pool ∙ gap.has;
   }
 
-  read : IsRead f tree built.rest built.since
+  read : IsRead f tree built.rest built.read
   read = record {
     reading = built.reading;
-    rising = GetOutcomes.rises tree f.op built.rest built.since f.place.leaf f.gets built.gets;
-    reachable = GetOutcomes.reached tree f.op built.rest built.since f.place.leaf f.gets built.gets (slice_index f.choice);
-    hit = GetOutcomes.hits tree f.op built.rest built.since f.place.leaf f.gets built.gets;
+    rising = GetOutcomes.rises tree f.op built.rest built.read f.place.leaf f.gets built.gets;
+    reachable = GetOutcomes.reached tree f.op built.rest built.read f.place.leaf f.gets built.gets (slice_index f.choice);
+    hit = GetOutcomes.hits tree f.op built.rest built.read f.place.leaf f.gets built.gets;
   }
 
   missed : IsMissed f tree built.rest built.since
@@ -130,8 +143,8 @@ module _ (r : RoutesValue) (sound : IsSoundRoutes r) (limits : AreWithinLimits r
       (record {
         rising = DeleteOutcomes.rises tree built.rest built.since (slice_index (free_indexes built.legs f.server leaf.symbol f.at 0 r.symbols));
         reachable = DeleteOutcomes.reached tree built.rest built.since (slice_index (free_indexes built.legs f.server leaf.symbol f.at 0 r.symbols));
-        done = DeleteOutcomes.done tree built.rest built.since (slice_index (free_indexes built.legs f.server leaf.symbol f.at 0 r.symbols)) (gaps.can (sizes_of r) tree built.rest built.since positive sized b block leaf f.at f.server gap.has gap.unanswered built.legs built.are);
-        unsent = gaps.unsent (sizes_of r) tree built.rest built.since positive sized b block leaf f.at f.server gap.has gap.unanswered built.legs built.are r.symbols refl size.0 low;
+        done = DeleteOutcomes.done tree built.rest built.since (slice_index (free_indexes built.legs f.server leaf.symbol f.at 0 r.symbols)) (gaps.can (sizes_of r) tree built.rest built.since built.read positive sized b block leaf f.at f.server gap.has gap.unanswered built.legs built.are);
+        unsent = gaps.unsent (sizes_of r) tree built.rest built.since built.read positive sized b block leaf f.at f.server gap.has gap.unanswered built.legs built.are r.symbols refl size.0 low;
       }))
 
   breaks : BreaksCoverage r f
@@ -139,9 +152,10 @@ module _ (r : RoutesValue) (sound : IsSoundRoutes r) (limits : AreWithinLimits r
     tree = tree;
     rest = built.rest;
     since = built.since;
+    get_since = built.read;
     placed = placed;
     choice = subst (λ (ns : List ℕ). IsChoice (sizes_of r) (slice_index ns)) same-choice
-        (gaps.is-choice (sizes_of r) tree built.rest built.since positive sized b block leaf f.at f.server gap.has gap.unanswered built.legs built.are r.symbols refl size.0 low);
+        (gaps.is-choice (sizes_of r) tree built.rest built.since built.read positive sized b block leaf f.at f.server gap.has gap.unanswered built.legs built.are r.symbols refl size.0 low);
     leaf = is-leaf;
     read = read;
     missed = missed;

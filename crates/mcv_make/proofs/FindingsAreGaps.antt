@@ -9,7 +9,7 @@ use Rattle.mcv_base.specs.declared.operation.Op.{Op}
 use Rattle.mcv_base.specs.declared.operation.Op.TheVariants.{Delete}
 use Rattle.mcv_base.specs.declared.reply.Outcome.TheVariants.{Good, Error}
 use Rattle.mcv_blocks.specs.Blocks.{IsBlockAt, IsSpotOf, pool_for}
-use Rattle.mcv_blocks.specs.Spots.{IsBlockFor, ClassInEra, in_era}
+use Rattle.mcv_blocks.specs.Spots.{IsBlockFor, ClassInEras, in_eras}
 use Rattle.mcv_blocks.proofs.BlocksOfSpots.{class-there}
 use Rattle.mcv_blocks.proofs.BlockAtEachSpot.{block_exists}
 use Rattle.mcv_blocks.proofs.PoolSizes.{AreSized, entry_sized}
@@ -27,6 +27,7 @@ use Rattle.mcv_judge.specs.Faults.{require, place_required}
 use Rattle.mcv_judge.specs.Reason.{BlockValue, HasReason, LegValue, server_at}
 use Rattle.mcv_make.specs.FirstFinding.{IsFirstFinding}
 use Rattle.mcv_make.specs.Place.{IsAtGap}
+use Rattle.mcv_route.specs.Eras.{IsNear}
 use Rattle.mcv_route.specs.Launched.{launched}
 use Rattle.mcv_route.specs.Outcomes.{Choice, History, Outcomes, outcomes}
 use Rattle.mcv_route.specs.Places.{pool_at_position}
@@ -100,12 +101,18 @@ module _ (t : Tree) (rest : List ℕ) (since : Option ℕ) (c : Choice) (o : Out
 
 -- ---- the gap of a finding
 
-module _ (r : RoutesValue) (sound : IsSoundRoutes r) (f : FindingValue) (b : BreaksCoverage r f) where
+module _ (r : RoutesValue) (sound : IsSoundRoutes r) (f : FindingValue) (window : f.window ≡ r.window) (b : BreaksCoverage r f) where
   abbrev t : Tree
   t = b.tree
 
   abbrev since : Option ℕ
   since = b.since
+
+  abbrev read : Option ℕ
+  read = b.get_since
+
+  near : IsNear r r.window since read
+  near = subst (λ w. IsNear r w since read) window b.placed.near
 
   entry : (e : RouteEntry) × (slice_get r.entries f.place.spot.route ≡ Some e) × (e.tree ≡ t)
   entry = entry_at r.entries f.place.spot.route t b.placed.route
@@ -127,28 +134,28 @@ module _ (r : RoutesValue) (sound : IsSoundRoutes r) (f : FindingValue) (b : Bre
   back : AreAlike t rest b.rest
   back = (f.place.spot.class, inside, b.placed.class)
 
-  at_spot : IsSpotOf r f.place.spot t rest since
-  at_spot = record { entry = entry.0; numbered = entry.1; has_tree = entry.2; listed = b.placed.class.listed; has_member = member.1; opened = b.placed.era }
+  at_spot : IsSpotOf r f.place.spot t rest since read
+  at_spot = record { entry = entry.0; numbered = entry.1; has_tree = entry.2; listed = b.placed.class.listed; has_member = member.1; opened = b.placed.era; read_opened = b.placed.get_era; near = near }
 
-  abbrev here : ClassInEra
-  here = in_era (record { route = f.place.spot.route; class = record { word = f.place.spot.class; member = Some rest } }) f.place.spot.era
+  abbrev here : ClassInEras
+  here = in_eras (record { route = f.place.spot.route; class = record { word = f.place.spot.class; member = Some rest } }) f.place.spot.era f.place.spot.get_era
 
   block : (d : BlockValue) × IsBlockFor r here d
-  block = block_exists r here (class-there r f.place.spot t rest since at_spot, (since, b.placed.era))
+  block = block_exists r here (class-there r f.place.spot t rest since read at_spot, (since, read, b.placed.era, b.placed.get_era, near))
 
-  has : IsBlockAt t rest since block.0
-  has = block_has r f.place.spot t rest since at_spot block.0 block.1.is block.1.spot
+  has : IsBlockAt t rest since read block.0
+  has = block_has r f.place.spot t rest since read at_spot block.0 block.1.is block.1.spot
 
   -- the leaf can be read at the member too
-  readable : IsReadableAt t rest since f.place.leaf
+  readable : IsReadableAt t rest read f.place.leaf
   readable =
-      (f.op, b.read.reading, chosen f, (outcomes f.gets, alike_reachable t b.rest rest alike f.op since (chosen f) (outcomes f.gets) b.read.reachable, alike_hit t b.rest rest alike f.op since (outcomes f.gets) f.place.leaf b.read.hit))
+      (f.op, b.read.reading, chosen f, (outcomes f.gets, alike_reachable t b.rest rest alike f.op read (chosen f) (outcomes f.gets) b.read.reachable, alike_hit t b.rest rest alike f.op read (outcomes f.gets) f.place.leaf b.read.hit))
 
   leaf : (l : LegValue) × Contains block.0.readable l × (l.position ≡ f.place.leaf)
-  leaf = leg_there t (IsReadableAt t rest since) block.0.readable has.readable f.place.leaf readable
+  leaf = leg_there t (IsReadableAt t rest read) block.0.readable has.readable f.place.leaf readable
 
   pool_there : pool_at_position t leaf.0.position ≡ Some (pool_for leaf.0)
-  pool_there = pool_of_leg t (IsReadableAt t rest since) block.0.readable has.readable leaf.0 leaf.1
+  pool_there = pool_of_leg t (IsReadableAt t rest read) block.0.readable has.readable leaf.0 leaf.1
 
   same_pool : b.leaf.pool ≡ pool_for leaf.0
   same_pool = same_Some b.leaf.pool (pool_for leaf.0) (sym b.leaf.pool_there ∙ ap (pool_at_position t) (sym leaf.2) ∙ pool_there)
@@ -173,7 +180,7 @@ module _ (r : RoutesValue) (sound : IsSoundRoutes r) (f : FindingValue) (b : Bre
   -- a reason would have had the delete sent
   unanswered : HasReason block.0 leaf.0 f.at → ⊥
   unanswered h =
-      elim (answers (sizes_of r) t rest since sized block.0 has leaf.0 (sized leaf.0.position (pool_for leaf.0) pool_there).0 f.at h) [
+      elim (answers (sizes_of r) t rest since read sized block.0 has leaf.0 (sized leaf.0.position (pool_for leaf.0) pool_there).0 f.at h) [
         | inl never ↦ never (chosen f) (outcomes f.deletes, reached, done)
         | inr answered ↦
             b.missed.unsent
@@ -189,9 +196,9 @@ module _ (r : RoutesValue) (sound : IsSoundRoutes r) (f : FindingValue) (b : Bre
 
 -- ---- the first
 
-pub first_finding : (r : RoutesValue) → IsSoundRoutes r → (f : FindingValue) → IsFirstGap r f.place f.at f.server → BreaksCoverage r f → IsFirstFinding r f
-first_finding r sound f gap breaks = record { breaks = breaks; first = λ g less other. gap.first g.place g.at g.server less (finding_is_gap r sound g other) }
+pub first_finding : (r : RoutesValue) → IsSoundRoutes r → (f : FindingValue) → f.window ≡ r.window → IsFirstGap r f.place f.at f.server → BreaksCoverage r f → IsFirstFinding r f
+first_finding r sound f window gap breaks = record { window = window; breaks = breaks; first = λ g same less other. gap.first g.place g.at g.server less (finding_is_gap r sound g same other) }
 
 -- the finding of the first gap
-pub first_of_gap : (r : RoutesValue) → IsSoundRoutes r → (g : Gap) (f : FindingValue) → IsFirstGap r (place_of g.place) g.at g.server.0 → IsAtGap g f → BreaksCoverage r f → IsFirstFinding r f
-first_of_gap r sound g f gap at breaks = first_finding r sound f (at-finding (IsFirstGap r) g f at gap) breaks
+pub first_of_gap : (r : RoutesValue) → IsSoundRoutes r → (g : Gap) (f : FindingValue) → f.window ≡ r.window → IsFirstGap r (place_of g.place) g.at g.server.0 → IsAtGap g f → BreaksCoverage r f → IsFirstFinding r f
+first_of_gap r sound g f window gap at breaks = first_finding r sound f window (at-finding (IsFirstGap r) g f at gap) breaks

@@ -8,7 +8,8 @@ use Rattle.mcv_classes.specs.Class.{IsMember}
 use Rattle.mcv_classes.specs.Words.{class_words}
 use Rattle.mcv_judge.specs.Reason.{BlockValue, LegValue}
 use Rattle.mcv_blocks.specs.Blocks.{IsBlockAt}
-use Rattle.mcv_route.specs.Eras.{HasEra, IsEraOf}
+use Rattle.mcv_route.specs.Eras.{HasEra, IsEraOf, IsNear}
+use Rattle.mcv_route.proofs.NearBreaks.{number_near}
 use Rattle.mcv_blocks.proofs.OneListOfBlocks.{block_has, has_property}
 use Rattle.mcv_certify.specs.Gap.{IsGap}
 use Rattle.mcv_certify.specs.declared.gap.Gap.{Gap}
@@ -52,10 +53,22 @@ module _ (r : RoutesValue) (g : Gap) (gap : IsGap r (place_of g.place) g.at g.se
   pub has_era : HasEra r g.place.era
   has_era = (gap.block_is.since, subst (λ (s : SpotValue). IsEraOf r s.era gap.block_is.since) at-spot gap.block_is.spot.opened)
 
-  module _ (e : RouteEntry) (rest : List ℕ) (since : Option ℕ) (here : slice_get r.entries g.place.route ≡ Some e) (listed : Contains (class_words e.tree) g.place.class.items) (member : IsMember (class_words e.tree) g.place.class.items (Some rest)) (opened : IsEraOf r g.place.era since) where
-    block : IsBlockAt e.tree rest since b
-    block = block_has r (place_of g.place).spot e.tree rest since (record { entry = e; numbered = here; has_tree = refl; listed = listed; has_member = member; opened = opened }) b gap.block_is at-spot
+  pub has_get_era : HasEra r g.place.get_era
+  has_get_era = (gap.block_is.read, subst (λ (s : SpotValue). IsEraOf r s.get_era gap.block_is.read) at-spot gap.block_is.spot.read_opened)
+
+  -- the eras of the gap are near
+  pub near : (since read : Option ℕ) → IsEraOf r g.place.era since → IsEraOf r g.place.get_era read → IsNear r r.window since read
+  near since read opened read_opened =
+      let own = subst (λ (s : SpotValue). IsEraOf r s.era gap.block_is.since) at-spot gap.block_is.spot.opened in
+      let own_read = subst (λ (s : SpotValue). IsEraOf r s.get_era gap.block_is.read) at-spot gap.block_is.spot.read_opened in
+      number_near r r.window g.place.era g.place.get_era since read opened read_opened (gap.block_is.since, gap.block_is.read, own, own_read, gap.block_is.spot.near)
+
+  module _ (e : RouteEntry) (rest : List ℕ) (since read : Option ℕ) (here : slice_get r.entries g.place.route ≡ Some e) (listed : Contains (class_words e.tree) g.place.class.items) (member : IsMember (class_words e.tree) g.place.class.items (Some rest)) (opened : IsEraOf r g.place.era since) (read_opened : IsEraOf r g.place.get_era read) where
+    block : IsBlockAt e.tree rest since read b
+    block =
+        block_has r (place_of g.place).spot e.tree rest since read (record { entry = e; numbered = here; has_tree = refl; listed = listed; has_member = member; opened = opened; read_opened = read_opened; near = near since read opened read_opened }) b
+        gap.block_is at-spot
 
     -- the leaf can be read at the member
-    pub readable : IsReadableAt e.tree rest since g.place.leaf
-    readable = subst (IsReadableAt e.tree rest since) at-leaf (has_property e.tree (IsReadableAt e.tree rest since) b.readable block.readable leaf gap.readable)
+    pub readable : IsReadableAt e.tree rest read g.place.leaf
+    readable = subst (IsReadableAt e.tree rest read) at-leaf (has_property e.tree (IsReadableAt e.tree rest read) b.readable block.readable leaf gap.readable)

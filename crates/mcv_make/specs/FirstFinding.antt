@@ -9,10 +9,11 @@ use Rattle.mcv_witness.specs.Breaks.{BreaksCoverage}
 use Rattle.mcv_witness.specs.Finding.{FindingValue, finding_of}
 use Rattle.mcv_witness.specs.declared.finding.Finding.{Finding}
 
--- the finding breaks coverage, and none at an earlier place, or at an earlier index of this one, does
+-- the finding breaks coverage within the window of the routes, and none at an earlier place, or at an earlier index of this one, does
 pub record IsFirstFinding (r : RoutesValue) (f : FindingValue) : Type 0 where
+  pub window : f.window ≡ r.window
   pub breaks : BreaksCoverage r f
-  pub first : (g : FindingValue) → index_cmp g.place g.at f.place f.at ≡ Less → BreaksCoverage r g → ⊥
+  pub first : (g : FindingValue) → g.window ≡ r.window → index_cmp g.place g.at f.place f.at ≡ Less → BreaksCoverage r g → ⊥
 
 -- what is shown to be lost is a first finding
 abbrev pub IsRightLoss : RoutesValue → MakeFault → Type 0

@@ -1,8 +1,9 @@
 -- Which finding is shown of a gap (own).
-use Rattle.std.specs.Prelude.{◌≡◌, ℕ, true, List, ◌++◌, Option, Some, slice_get}
+use Rattle.std.specs.Prelude.{◌≡◌, ◌<◌, ℕ, true, List, ◌++◌, Option, Some, slice_get}
 use Rattle.std.specs.List.{Contains}
-use Rattle.mcv_base.specs.Operation.{is_reading}
-use Rattle.mcv_base.specs.declared.operation.Op.TheVariants.{Delete, Get, Gets}
+use Rattle.mcv_base.specs.Operation.{op_number, shows_value}
+use Rattle.mcv_base.specs.declared.operation.Op.{Op}
+use Rattle.mcv_base.specs.declared.operation.Op.TheVariants.{Delete}
 use Rattle.mcv_base.specs.declared.reply.Outcome.TheVariants.{Good}
 use Rattle.mcv_route.specs.Eras.{IsEraOf}
 use Rattle.mcv_classes.specs.Class.{IsMember}
@@ -26,6 +27,7 @@ pub record IsShownWith (r : RoutesValue) (prefix : List ℕ) (f : FindingValue) 
   pub entry : RouteEntry
   pub rest : List ℕ
   pub since : Option ℕ
+  pub read : Option ℕ
   pub pool : Pool
   pub legs : List PlannedLeg
   pub numbered : slice_get r.entries f.place.spot.route ≡ Some entry
@@ -33,16 +35,18 @@ pub record IsShownWith (r : RoutesValue) (prefix : List ℕ) (f : FindingValue) 
   pub member : IsMember (class_words entry.tree) f.place.spot.class (Some rest)
   pub rest_is : IsRest rest
   pub opened : IsEraOf r f.place.spot.era since
+  pub read_opened : IsEraOf r f.place.spot.get_era read
+  pub window : f.window ≡ r.window
   pub key : f.key ≡ prefix ++ rest
   pub pool_there : pool_at_position entry.tree f.place.leaf ≡ Some pool
   -- the least indexes at which no leg that each acknowledged delete has sent has the server
   pub are : (c : Choice) → AreLegsAt entry.tree (IsAcknowledged entry.tree rest since c) legs
   pub choice : f.choice ≡ free_indexes legs f.server pool.symbol f.at 0 r.symbols
-  -- gets only where no get can be answered from the leaf
-  pub reading : is_reading f.op ≡ true
-  pub first : f.op ≡ Gets → (c : Choice) → CanHitAt entry.tree (asked Get rest since) c f.place.leaf → ⊥
+  -- the first of get, gets, incr and decr that can be answered from the leaf
+  pub reading : shows_value f.op ≡ true
+  pub first : (op : Op) → shows_value op ≡ true → op_number op < op_number f.op → (c : Choice) → CanHitAt entry.tree (asked op rest read) c f.place.leaf → ⊥
   -- the leaf's hit is the answer
-  pub gets : leaf_hit f.place.leaf (plan entry.tree (asked f.op rest since)) ≡ Some f.gets
+  pub gets : leaf_hit f.place.leaf (plan entry.tree (asked f.op rest read)) ≡ Some f.gets
   -- each leg that the reply needs has deleted
   pub deletes : f.deletes ≡ answers Good (plan entry.tree (asked Delete rest since))
 

@@ -65,6 +65,7 @@ fn find_behind(
         route,
         rest: &rest,
         since: opened(routes, gap.place.era),
+        read: opened(routes, gap.place.get_era),
     };
     let Reading { op, legs: gets } = scene.reading(alloc, &gap.place.leaf)?;
     Ok(Finding {
@@ -76,12 +77,13 @@ fn find_behind(
         op,
         gets,
         deletes: scene.deletes(alloc)?,
+        window: routes.window(),
     })
 }
 
 /// The finding that shows a gap: the member of its class behind the first routing prefix of its route.
 ///
-/// The leaf hits under get, or under gets where get can't read it. Takes time and memory in proportion to the route,
+/// The leaf hits under the first of get, gets, incr and decr that can read it. Takes time and memory in proportion to the route,
 /// its classes, the symbols and the servers of its legs; of a handle's n children that come before the leaf, up to
 /// n times n steps.
 pub fn find(alloc: Global, routes: &Routes, gap: &Gap) -> Result<Finding, AllocError>

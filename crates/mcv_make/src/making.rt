@@ -17,14 +17,14 @@ use mcv_route::Routes;
 use std::alloc::Global;
 
 /// The certificate of the routes, if they are covered. Else the first finding that shows how a delete is lost: none
-/// at an earlier place (by route, class, era, leaf and index) breaks coverage.
+/// at an earlier place (by route, class, delete's era, get's era, leaf and index) breaks coverage.
 ///
 /// Of the reasons that hold for a leaf the certificate names the first in the order never, twin, same and all, with
 /// the least positions. Takes time and memory in proportion to the nodes of the routes times their classes and eras,
 /// and to the servers of their legs.
 pub fn make(alloc: Global, routes: &Routes) -> Result<Certificate, MakeFault>
     ensures justified { IfOk result (λ c. IsJustifiedBy routes.now c) }
-    ensures picked { IfOk result (λ c. All (IsPickedOf routes.now) c) }
+    ensures picked { IfOk result (λ c. All (IsPickedOf routes.now) c.pairs) }
     ensures covered { AreCovered routes.now → IfErr result (λ f. f ≡ out_of_memory) }
     ensures lost { IfErr result (λ f. IsRightLoss routes.now f) }
     ensures uncovered { IfErr result (λ f. IfLost f (λ _. AreCovered routes.now → ⊥)) }

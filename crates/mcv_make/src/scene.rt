@@ -1,8 +1,9 @@
 //! What is read off a route for a finding: how its leaf is read, how a delete is acknowledged, and the indexes.
 
-ghost use Rattle.std.specs.Prelude.{◌≡◌, List, Some, IfOk, option_map, true};
-ghost use Rattle.mcv_base.specs.Operation.{is_reading};
-ghost use Rattle.mcv_base.specs.declared.operation.Op.TheVariants.{Delete as Deleting, Get as ByGet, Gets as ByGets};
+ghost use Rattle.std.specs.Prelude.{◌≡◌, ◌<◌, List, Some, IfOk, option_map, true};
+ghost use Rattle.mcv_base.specs.Operation.{op_number, shows_value};
+ghost use Rattle.mcv_base.specs.declared.operation.Op.{Op as Operation};
+ghost use Rattle.mcv_base.specs.declared.operation.Op.TheVariants.{Delete as Deleting};
 ghost use Rattle.mcv_base.specs.declared.reply.Outcome.TheVariants.{Good as Done};
 ghost use Rattle.mcv_route.specs.Outcomes.{Choice as Chosen};
 ghost use Rattle.mcv_route.specs.Situation.{asked};
@@ -23,12 +24,14 @@ use mcv_symbolic::{Case, LegAnswer};
 use mcv_witness::LegOutcome;
 use std::alloc::{AllocError, Global};
 
-/// A route with a rest, in the era that began at `since` (none: the first one).
+/// A route with a rest, with deletes in the era that began at `since` and gets in the one that began at `read` (none: the
+/// first one).
 #[derive(Clone, Copy)]
 pub struct Scene<'a> {
     pub route: &'a Route,
     pub rest: &'a Rest,
     pub since: Option<Moment>,
+    pub read: Option<Moment>,
 }
 
 /// How a leaf is read: the operation, and what the legs answer.
@@ -61,29 +64,35 @@ impl<'a> Scene<'a> {
         op: Op,
         leaf: &Position,
     ) -> Result<Option<Vec<LegOutcome>>, AllocError>
-        ensures { IfOk result (λ found. option_map (λ legs. outcomes_of legs.items) found ≡ leaf_hit leaf.now (plan (view self.now.route.now) (asked op self.now.rest.now (option_map (λ m. m.0) self.now.since)))) }
+        ensures { IfOk result (λ found. option_map (λ legs. outcomes_of legs.items) found ≡ leaf_hit leaf.now (plan (view self.now.route.now) (asked op self.now.rest.now (option_map (λ m. m.0) self.now.read)))) }
     {
-        let case = Case::new(alloc, self.route, op, self.rest, self.since)?;
+        let case = Case::new(alloc, self.route, op, self.rest, self.read)?;
         let Some(legs) = case.hit_of(alloc, leaf)? else {
             return Ok(None);
         };
         Ok(Some(copied(alloc, legs.as_slice())?))
     }
 
-    /// How a leaf that can be read is read: by get, or by gets where no get is answered from it.
+    /// How a leaf that can be read is read: by the first of get, gets, incr and decr that is answered from it.
     pub fn reading(&self, alloc: Global, leaf: &Position) -> Result<Reading, AllocError>
-        requires { IsReadableAt (view self.now.route.now) self.now.rest.now (option_map (λ m. m.0) self.now.since) leaf.now }
-        ensures reading { IfOk result (λ r. is_reading r.op ≡ true) }
-        ensures led { IfOk result (λ r. leaf_hit leaf.now (plan (view self.now.route.now) (asked r.op self.now.rest.now (option_map (λ m. m.0) self.now.since))) ≡ Some (outcomes_of r.legs.items)) }
-        ensures first { IfOk result (λ r. r.op ≡ ByGets → (c : Chosen) → CanHitAt (view self.now.route.now) (asked ByGet self.now.rest.now (option_map (λ m. m.0) self.now.since)) c leaf.now → ⊥) }
+        requires { IsReadableAt (view self.now.route.now) self.now.rest.now (option_map (λ m. m.0) self.now.read) leaf.now }
+        ensures reading { IfOk result (λ r. shows_value r.op ≡ true) }
+        ensures led { IfOk result (λ r. leaf_hit leaf.now (plan (view self.now.route.now) (asked r.op self.now.rest.now (option_map (λ m. m.0) self.now.read))) ≡ Some (outcomes_of r.legs.items)) }
+        ensures first { IfOk result (λ r. (op : Operation) → shows_value op ≡ true → op_number op < op_number r.op → (c : Chosen) → CanHitAt (view self.now.route.now) (asked op self.now.rest.now (option_map (λ m. m.0) self.now.read)) c leaf.now → ⊥) }
     {
         if let Some(legs) = self.hit(alloc, Op::Get, leaf)? {
             return Ok(Reading { op: Op::Get, legs });
         }
-        let Some(legs) = self.hit(alloc, Op::Gets, leaf)? else {
+        if let Some(legs) = self.hit(alloc, Op::Gets, leaf)? {
+            return Ok(Reading { op: Op::Gets, legs });
+        }
+        if let Some(legs) = self.hit(alloc, Op::Incr, leaf)? {
+            return Ok(Reading { op: Op::Incr, legs });
+        }
+        let Some(legs) = self.hit(alloc, Op::Decr, leaf)? else {
             unreachable!()
         };
-        Ok(Reading { op: Op::Gets, legs })
+        Ok(Reading { op: Op::Decr, legs })
     }
 
     /// The outcomes by which a delete is acknowledged, and no leg was sent that it needn't have.

@@ -3,7 +3,7 @@ use Rattle.std.specs.Prelude.{ℕ, Bool, true, false, ◌==◌, ◌||◌, nat_lt
 use Rattle.serde_json.specs.Data.{Data, Members, no_members, member}
 use Rattle.serde_json.specs.Find.{get, as_str}
 use Rattle.mcv_base.specs.declared.operation.Op.{Op}
-use Rattle.mcv_base.specs.declared.operation.Op.TheVariants.{Get, Gets, Set, Add, Replace, Append, Prepend, Cas, Delete, Touch}
+use Rattle.mcv_base.specs.declared.operation.Op.TheVariants.{Get, Gets, Set, Add, Replace, Append, Prepend, Cas, Delete, Touch, Incr, Decr}
 use Rattle.mcv_base.specs.Operation.{op_name}
 use Rattle.mcv_names.specs.declared.fault.FaultKind.{FaultKind}
 use Rattle.mcv_names.specs.declared.fault.FaultKind.TheVariants.{UnknownKey, UnknownHandle, Limit, LeftOut}
@@ -139,11 +139,11 @@ op_among [] name = None
 op_among (op ∷ ops) name = if bytes_eq (op_name op) name then Some op else op_among ops name
 
 unfoldable pub op_named : List ℕ → Option Op
-op_named = op_among (Get ∷ Gets ∷ Set ∷ Add ∷ Replace ∷ Append ∷ Prepend ∷ Cas ∷ Delete ∷ Touch ∷ [])
+op_named = op_among (Get ∷ Gets ∷ Set ∷ Add ∷ Replace ∷ Append ∷ Prepend ∷ Cas ∷ Delete ∷ Touch ∷ Incr ∷ Decr ∷ [])
 
 -- operations of mcrouter's that no request here has
 abbrev pub other_operations : List (List ℕ)
-other_operations = codes "incr" ∷ codes "decr" ∷ codes "lease-get" ∷ codes "lease-set" ∷ codes "metaget" ∷ []
+other_operations = codes "lease-get" ∷ codes "lease-set" ∷ codes "metaget" ∷ []
 
 -- ---- names of policies
 

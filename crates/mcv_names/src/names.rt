@@ -197,10 +197,7 @@ pub fn op_named(name: &[u8]) -> Option<Op>
 fn is_other_operation(name: &str) -> bool
     ensures { result ≡ is_listed name.now other_operations }
 {
-    matches!(
-        name,
-        "incr" | "decr" | "lease-get" | "lease-set" | "metaget"
-    )
+    matches!(name, "lease-get" | "lease-set" | "metaget")
 }
 
 #[tactic(auto, unfolding(crate::specs::Handles::name_fault))]

@@ -1,3 +1,4 @@
+pub mod Losing
 pub mod Reading
 pub mod Sending
 pub mod Writing

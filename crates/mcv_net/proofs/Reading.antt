@@ -1,7 +1,10 @@
 -- A reply that is read piece by piece.
-use Rattle.std.proofs.Common.{◌≡◌, ◌≢◌, ◌∙◌, ◌<◌, ◌≤◌, ℕ, Bool, true, false, List, [], ◌++◌, Option, None, Some, Ok, Err, refl, sym, ap, subst, arith, length, take, length-append, length-take-le, append-nil, Result}
+use Rattle.std.proofs.Common.{◌≡◌, ◌≢◌, ◌∙◌, ◌<◌, ◌≤◌, ℕ, Bool, true, false, List, [], ◌++◌, Option, None, Some, Ok, Err, inl, inr, refl, sym, ap, subst, arith, length, take, length-append, length-take-le, append-nil, Result}
 use Rattle.std.proofs.KnownBytes.{Consumes-nil, Consumes-trans}
 use Rattle.std.specs.Io.KnownBytes.{Consumes, Keeps}
+use Rattle.std.specs.IoError.{error_kind}
+use Rattle.std.specs.declared.io.ErrorKind.{ErrorKind}
+use Rattle.std.specs.declared.io.ErrorKind.TheVariants.{Interrupted, TimedOut, WouldBlock}
 use Rattle.std.specs.declared.alloc.Global.{Global}
 use Rattle.std.specs.declared.vec.Vec.{Vec}
 use Rattle.mcv_base.specs.declared.operation.Op.{Op}
@@ -13,7 +16,8 @@ use Rattle.mcv_reply.specs.Reader.{Answers, Fed, Feeds, FeedsAt, Reading, Reader
 use Rattle.mcv_reply.specs.Reply.{SpellsVersion}
 use Rattle.mcv_reply.specs.Probe.{FeedsProbe, ProbeAnswers}
 use Rattle.mcv_net.specs.declared.loss.Loss.{Loss}
-use Rattle.mcv_net.specs.Exchange.{AnswersProbe, Reads, SpellsReply, loss_by, loss_of}
+use Rattle.mcv_net.specs.Exchange.{AnswersProbe, IsUnread, Reads, SpellsReply, loss_by, loss_of, lost_by}
+use Rattle.mcv_net.proofs.Losing.{same_loss}
 
 pub consumes_kept : (a b : Option (List ℕ)) → Keeps a b → Consumes a b []
 consumes_kept None b p = tt
@@ -58,6 +62,17 @@ module _ {X : Type 0} (spells : List ℕ → X → Type 0) where
   pub come_lost : (a c : Option (List ℕ)) (has_read : Bool) (bytes : List ℕ) (loss : Loss) → HasCome spells a c has_read bytes → loss ≡ loss_of has_read → Reads spells a c (Err loss)
   come_lost a c true bytes loss h e = subst (λ l. Reads spells a c (Err l)) (sym e) (bytes, h.reads, (h.more refl).0, (h.more refl).1)
   come_lost a c false bytes loss h e = subst (λ l. Reads spells a c (Err l)) (sym e) (subst (Consumes a c) (h.fresh refl) h.reads)
+
+  come_failed : (a c : Option (List ℕ)) (has_read : Bool) (bytes : List ℕ) (kind : ErrorKind) (loss : Loss) → HasCome spells a c has_read bytes → Some loss ≡ lost_by kind (loss_of has_read) → Reads spells a c (Err loss)
+  come_failed a c has_read bytes Interrupted loss h e = absurd (let g : Some loss ≡ None = e in cc)
+  come_failed a c has_read bytes WouldBlock loss h e = subst (λ l. Reads spells a c (Err l)) (sym (same_loss e)) (bytes, h.reads)
+  come_failed a c has_read bytes TimedOut loss h e = subst (λ l. Reads spells a c (Err l)) (sym (same_loss e)) (bytes, h.reads)
+  come_failed a c has_read bytes _ loss h e = come_lost a c has_read bytes loss h (same_loss e)
+
+  -- a read gave nothing
+  pub come_unread : (a c : Option (List ℕ)) (has_read : Bool) (bytes : List ℕ) (loss : Loss) → HasCome spells a c has_read bytes → IsUnread has_read loss → Reads spells a c (Err loss)
+  come_unread a c has_read bytes loss h (inl e) = come_lost a c has_read bytes loss h e
+  come_unread a c has_read bytes loss h (inr r) = come_failed a c has_read bytes (error_kind r.0) loss h r.1
 
   pub come_refused : (a b c : Option (List ℕ)) (has_read : Bool) (bytes piece : List ℕ) (fault : ReplyFault) (loss : Loss) → HasCome spells a b has_read bytes → Consumes b c piece → 0 < length piece
       → UnlessMemory fault ((x : X) → spells (bytes ++ piece) x → ⊥) → loss ≡ loss_by fault → Reads spells a c (Err loss)

@@ -1,9 +1,10 @@
 -- A reply that is given was read from a connection.
 use Rattle.std.proofs.Common.{◌≡◌, ◌∙◌, ◌⊎◌, ℕ, Bool, true, false, List, Option, None, Some, Ok, Err, refl, sym, subst, inl, inr, Result, MatchResult}
 use Rattle.std.specs.Prelude.{IfNone, IfSome}
+use Rattle.std.specs.Io.KnownBytes.{Appends}
 use Rattle.mcv_base.specs.declared.operation.Op.{Op}
 use Rattle.mcv_net.specs.declared.loss.Loss.{Loss}
-use Rattle.mcv_net.specs.declared.loss.Loss.TheVariants.{Unwritten, Unread, Broken, Memory}
+use Rattle.mcv_net.specs.declared.loss.Loss.TheVariants.{Unwritten, Unread, Broken, Memory, Late}
 use Rattle.mcv_net.specs.declared.link.Written.{Written}
 use Rattle.mcv_net.specs.Exchange.{Asks, Reads, Writes}
 use Rattle.mcv_net.specs.Repeat.{may_repeat}
@@ -63,6 +64,13 @@ module _ {S X : Type 0} (contents remaining : S → Option (List ℕ)) (spells :
   lost_writing a b Unread w = w
   lost_writing a b Broken w = w
   lost_writing a b Memory w = w
+  lost_writing a b Late w = w
+
+  -- what was asked over a connection from some moment on
+  pub asks_bound : (old bound new : S) (result : Result X Loss) → contents bound ≡ contents old → Asks contents remaining spells text bound new result
+      → Asks contents remaining spells text old new result
+  asks_bound old bound new result same (inl l) = inl (l.0, l.1, subst (λ a. Writes {X = X} a (contents new) text (Err l.0)) same l.2)
+  asks_bound old bound new result same (inr r) = inr (r.0, subst (λ a. Appends a (contents r.0) text) same r.1, r.2)
 
   over_by : (from stream : S) (outcome : Result (Unit {0}) Loss) (result : Result X Loss) (kept : Option S) (to : S)
       → Writes (contents from) (contents stream) text outcome
@@ -101,3 +109,9 @@ sends_by contents remaining spells text other op old over result kept e b g =
 pub either_way : {B : Type 0} (begun : Option B) (P : B → Type 0) (Q G : Type 0) → IfSome begun P → IfNone begun Q → ((b : B) → P b → G) → (Q → G) → G
 either_way None P Q G p q f h = h q
 either_way (Some b) P Q G p q f h = f b p
+
+-- a text that was written to the kept connection, once that had got a bound
+pub begins_bound : {S : Type 0} (contents : S → Option (List ℕ)) (text : List ℕ) (kept : Option S) (from bound : S) (written : Written S) → Some from ≡ kept → contents bound ≡ contents from
+    → Writes {X = Unit {0}} (contents bound) (contents written.stream) text written.outcome → Begins contents text kept (Some written)
+begins_bound contents text kept from bound written is same w =
+    subst (λ k. Begins contents text k (Some written)) is (subst (λ a. Writes {X = Unit {0}} a (contents written.stream) text written.outcome) same w)

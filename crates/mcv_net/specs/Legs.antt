@@ -8,7 +8,7 @@ use Rattle.mcv_proxy.specs.declared.gates.LinkFault.{LinkFault}
 use Rattle.mcv_proxy.specs.declared.gates.LinkFault.TheVariants as links
 use Rattle.mcv_net.specs.declared.link.Begun.{Begun}
 use Rattle.mcv_net.specs.declared.loss.Loss.{Loss}
-use Rattle.mcv_net.specs.declared.loss.Loss.TheVariants.{Unwritten, Unread, Broken, Memory}
+use Rattle.mcv_net.specs.declared.loss.Loss.TheVariants.{Unwritten, Unread, Broken, Memory, Late}
 use Rattle.mcv_net.specs.Exchange.{SpellsReply}
 use Rattle.mcv_net.specs.Connections.{Begins, GoesOn, Sends}
 
@@ -17,6 +17,7 @@ link_fault Unwritten = links.Broken
 link_fault Unread = links.Broken
 link_fault Broken = links.Broken
 link_fault Memory = links.Memory
+link_fault Late = links.Broken
 
 -- what came of a leg, as a link answers it
 abbrev pub link_answer : Result Reply Loss → Result Reply LinkFault

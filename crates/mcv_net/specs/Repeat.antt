@@ -1,13 +1,15 @@
 -- Which legs may be sent once more (own).
-use Rattle.std.specs.Prelude.{Bool, true, false, not}
+use Rattle.std.specs.Prelude.{Bool, true, false, not, ◌||◌}
 use Rattle.mcv_base.specs.declared.operation.Op.{Op}
-use Rattle.mcv_base.specs.Operation.{is_storing}
+use Rattle.mcv_base.specs.Operation.{is_adjusting, is_storing}
 use Rattle.mcv_net.specs.declared.loss.Loss.{Loss}
-use Rattle.mcv_net.specs.declared.loss.Loss.TheVariants.{Unwritten, Unread, Broken, Memory}
+use Rattle.mcv_net.specs.declared.loss.Loss.TheVariants.{Unwritten, Unread, Broken, Memory, Late}
 
--- nothing of the leg was written; or nothing was read, and its operation sends no value to be stored (protocol.txt, "Storage commands"): performed twice it leaves what it leaves performed once
+-- nothing of the leg was written; or nothing was read, and its operation neither sends a value to be stored nor changes a number (protocol.txt, "Storage commands", "Increment/Decrement"): performed twice it leaves what it leaves performed once.
+-- What is late is never sent again: its server may perform it at any later time
 abbrev pub may_repeat : Op → Loss → Bool
 may_repeat op Unwritten = true
-may_repeat op Unread = not (is_storing op)
+may_repeat op Unread = not (is_storing op || is_adjusting op)
 may_repeat op Broken = false
 may_repeat op Memory = false
+may_repeat op Late = false

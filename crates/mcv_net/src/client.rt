@@ -1,10 +1,12 @@
 //! A client's connection, read and written by its session.
 
+use mcv_words::ClientTimeout;
 use std::alloc::{AllocError, Global};
 use std::io;
 use std::io::{Read, Write};
 use std::net::TcpStream;
 use std::sync::Arc;
+use std::time::Duration;
 
 /// One end of a session's work on its client's connection, which is closed with the last end.
 #[derive(Drop)]
@@ -13,9 +15,21 @@ pub struct Client {
 }
 
 impl Client {
-    /// What is read from a client, and what is written to it, over one connection.
-    pub fn ends_of(alloc: Global, stream: TcpStream) -> Result<(Client, Client), AllocError> {
-        let stream = Arc::new(alloc, stream)?;
+    /// What is read from a client, and what is written to it, over one connection. A read or a write that waits for longer
+    /// than the timeout fails, with which the session ends. An error is that memory ran out, or that the system sets no limit.
+    pub fn ends_of(
+        alloc: Global,
+        stream: TcpStream,
+        timeout: Option<ClientTimeout>,
+    ) -> io::Result<(Client, Client)> {
+        // Without it small writes may wait, but the connection serves all the same.
+        let _ = stream.set_nodelay(true);
+        if let Some(timeout) = timeout {
+            let most = Some(Duration::from_millis(timeout.millis));
+            stream.set_read_timeout(most)?;
+            stream.set_write_timeout(most)?;
+        }
+        let stream = Arc::new(alloc, stream).map_err(AllocError::from)?;
         let other = Arc::try_clone(&stream)?;
         Ok((Client { stream }, Client { stream: other }))
     }

@@ -2,19 +2,34 @@
 
 ghost use Rattle.std.specs.Prelude.{◌≡◌, ◌<◌, ◌≤◌, [], ◌++◌, length, take, IfErr, IfOk, OnErr, codes};
 ghost use Rattle.std.specs.Arc.{arc_value};
+ghost use Rattle.std.specs.IoError.{error_kind};
 ghost use Rattle.std.specs.Io.KnownBytes.{Consumes};
 ghost use Rattle.mcv_text.specs.Answer.{line_end};
-ghost use Rattle.mcv_net.specs.Exchange.{AnswersProbe, Asks, Reads, SpellsReply, Writes, loss_by, loss_of};
+ghost use Rattle.mcv_net.specs.Exchange.{AnswersProbe, Asks, IsUnread, Reads, SpellsReply, Writes, loss_by, loss_of, lost_by};
 
 use crate::loss::Loss;
 use mcv_base::{LegRequest, Reply};
 use mcv_reply::{ProbeReader, ReplyFault, ReplyReader};
 use std::alloc::Global;
+use std::io;
 use std::io::{ErrorKind, Read, Write};
 use std::sync::Arc;
 
 /// The most reads of one reply, and the most writes of one text: more than the bytes of the longest one.
 const CALLS: u64 = 2_000_000;
+
+/// What is lost where a write or a read failed so, with which `other` is lost if its time didn't run out; None where it was
+/// interrupted, and is to be tried again.
+#[tactic(auto, using(crate::proofs::Losing::lost_otherwise))]
+fn lost_by(error: &io::Error, other: Loss) -> Option<Loss>
+    ensures { result ≡ lost_by (error_kind error.now) other }
+{
+    match error.kind() {
+        ErrorKind::Interrupted => None,
+        ErrorKind::WouldBlock | ErrorKind::TimedOut => Some(Loss::Late),
+        _ => Some(other),
+    }
+}
 
 /// What is lost where a text can't be written any more, of which so many bytes were.
 fn loss_at(written: usize) -> Loss
@@ -37,8 +52,11 @@ pub(crate) fn write_text<S: Write>(stream: &mut S, text: &[u8]) -> Result<(), Lo
             Ok(count) if count == text.len() - written => return Ok(()),
             Ok(0) => return Err(loss_at(written)),
             Ok(count) => written += count,
-            Err(error) if error.kind() == ErrorKind::Interrupted => {}
-            Err(_) => return Err(loss_at(written)),
+            Err(error) => {
+                if let Some(loss) = lost_by(&error, loss_at(written)) {
+                    return Err(loss);
+                }
+            }
         }
     }
     Err(loss_at(written))
@@ -65,14 +83,16 @@ fn refused(fault: ReplyFault) -> Loss
 fn next_piece<S: Read>(stream: &mut S, room: &mut [u8], has_read: bool) -> Result<usize, Loss>
     ensures within { IfOk result (λ count. count ≤ length room.new) }
     ensures read { IfOk result (λ count. Consumes (S.remaining stream.old) (S.remaining stream.new) (take count room.new)) }
-    ensures lost { IfErr result (λ loss. loss ≡ loss_of has_read) }
+    ensures lost { IfErr result (IsUnread has_read) }
     ensures unread { OnErr result (Consumes (S.remaining stream.old) (S.remaining stream.new) []) }
 {
     match stream.read(room) {
         Ok(0) => Err(loss_of(has_read)),
         Ok(count) => Ok(count),
-        Err(error) if error.kind() == ErrorKind::Interrupted => Ok(0),
-        Err(_) => Err(loss_of(has_read)),
+        Err(error) => match lost_by(&error, loss_of(has_read)) {
+            Some(loss) => Err(loss),
+            None => Ok(0),
+        },
     }
 }
 

@@ -5,6 +5,7 @@ ghost use Rattle.std.specs.Io.KnownBytes.{Appends};
 ghost use Rattle.mcv_net.specs.Lines.{listening_line};
 
 use crate::client::Client;
+use crate::connection::TcpConnection;
 use crate::dial::TcpDial;
 use crate::fault::NetFault;
 use crate::lines::{listening_line, print_line};
@@ -13,15 +14,13 @@ use crate::notice::{Notice, Notices, StandardError};
 use crate::system_watch::SystemWatch;
 use mcv_proxy::{Gates, ProxyFault};
 use mcv_spool::Disk;
+use mcv_words::Settings;
 use std::alloc::{AllocError, Global};
 use std::io::{Eprint, ErrorKind, Write};
 use std::net::{Net, TcpListener, TcpStream};
 use std::rt::Clock;
 use std::thread;
 use std::time::Duration;
-
-/// The most tries to accept one client.
-const TRIES: u64 = 1_000_000_000;
 
 /// Clients that a listener accepts, servers over TCP, a disk, and the system's clock.
 #[derive(Drop)]
@@ -30,10 +29,9 @@ pub struct NetGates<'a, D: Disk, W: Write, R: Drop> {
     alloc: Global,
     listener: TcpListener,
     disk: Option<D>,
-    /// How many clients are still to be served.
+    settings: Settings,
+    /// How many clients are still to be served; where that has no limit, more than come.
     sessions: u64,
-    /// How many proxies the clients are dealt out to.
-    proxies: u64,
     out: &'a mut W,
     /// Whether the last try to accept a client failed.
     is_deaf: bool,
@@ -50,17 +48,20 @@ impl<'a, D: Disk, W: Write, R: Clock + Eprint + Copy + Drop> NetGates<'a, D, W, 
         alloc: Global,
         listener: TcpListener,
         disk: D,
-        sessions: u64,
-        proxies: u64,
+        settings: Settings,
         out: &'a mut W,
     ) -> NetGates<'a, D, W, R> {
+        let sessions = match settings.sessions {
+            Some(sessions) => sessions.count,
+            None => u64::MAX,
+        };
         NetGates {
             rt,
             alloc,
             listener,
             disk: Some(disk),
+            settings,
             sessions,
-            proxies,
             out,
             is_deaf: false,
         }
@@ -86,11 +87,11 @@ impl<'a, D: Disk, W: Write, R: Clock + Eprint + Copy + Drop> NetGates<'a, D, W, 
     }
 
     /// The next connection of a client, once there is one, and None where none comes any more. Where one can't be accepted,
-    /// as while too many files are open, it tries again 10 ms later, at most 1,000,000,000 times.
+    /// as while too many files are open, it tries again 10 ms later.
     fn next_stream(&mut self) -> Option<TcpStream>
         ensures { self.new.sessions ≡ self.old.sessions }
     {
-        for _try in 0..TRIES {
+        for _try in 0..u64::MAX {
             match self.listener.accept() {
                 Ok((stream, _address)) => {
                     self.note_hearing(false);
@@ -129,7 +130,7 @@ where
         + Send
         + 'static,
 {
-    type Begun = Option<Begun<TcpStream>>;
+    type Begun = Option<Begun<TcpConnection<R>>>;
 
     type Link = TcpLink<TcpDial<R>, StandardError<R>>;
 
@@ -142,15 +143,18 @@ where
     type Watch = SystemWatch<R, StandardError<R>>;
 
     fn link(&mut self, server: &str) -> Result<Self::Link, AllocError> {
-        let dial = TcpDial { rt: self.rt };
+        let dial = TcpDial {
+            rt: self.rt,
+            timeout: self.settings.server_timeout,
+        };
         let notices = StandardError { rt: self.rt };
         TcpLink::new(self.alloc, server, dial, notices)
     }
 
     fn hubs(&self) -> usize
-        ensures { result ≡ self.now.proxies }
+        ensures { result ≡ self.now.settings.proxies.count }
     {
-        self.proxies as usize
+        self.settings.proxies.count as usize
     }
 
     fn disk(&mut self) -> Option<D> {
@@ -160,12 +164,10 @@ where
     fn session(&mut self) -> Option<(Client, Client)>
         ensures { IfSome result (λ _. self.new.sessions < self.old.sessions) }
     {
-        for _try in 0..TRIES {
+        for _try in 0..u64::MAX {
             self.sessions = self.sessions.checked_sub(1)?;
             let stream = self.next_stream()?;
-            // Without it small writes may wait, but the connection serves all the same.
-            let _ = stream.set_nodelay(true);
-            match Client::ends_of(self.alloc, stream) {
+            match Client::ends_of(self.alloc, stream, self.settings.client_timeout) {
                 Ok(ends) => return Some(ends),
                 Err(_) => self.note(Notice::Unserved),
             }

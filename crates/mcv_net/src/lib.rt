@@ -1,10 +1,11 @@
 //! The proxy on sockets: its servers and its clients over TCP, its spool in a file.
 //!
 //! `TcpLink` is the way to one server over one connection that is kept, `NetGates` what a proxy talks to, and `serve` runs
-//! one by the texts of a command line.
+//! one by the options of a command line.
 #![tactic(auto)]
 
 mod client;
+mod connection;
 mod dial;
 mod exchange;
 mod fault;
@@ -17,6 +18,7 @@ mod run;
 mod system_watch;
 
 pub use client::Client;
+pub use connection::{Connection, TcpConnection};
 pub use dial::{Dial, TcpDial};
 pub use fault::NetFault;
 pub use gates::NetGates;

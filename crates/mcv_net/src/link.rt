@@ -8,6 +8,7 @@ ghost use Rattle.mcv_net.specs.Exchange.{AnswersProbe, SpellsReply};
 ghost use Rattle.mcv_net.specs.Legs.{AnswersLeg, BeginsLeg, link_fault};
 ghost use Rattle.mcv_net.specs.Connections.{AsksAnew, AsksOver, Begins, Finishes, GoesOn, Sends, kept_behind};
 
+use crate::connection::Connection;
 use crate::dial::Dial;
 use crate::exchange::{ask, ask_version, read_reply, write_text};
 use crate::loss::{Loss, may_ask_again};
@@ -17,6 +18,7 @@ use mcv_hub::Pass;
 use mcv_proxy::{Link, LinkFault};
 use mcv_text::leg_text;
 use std::alloc::{AllocError, Global};
+use std::time::Instant;
 
 /// The most bytes of one read.
 const PIECE: usize = 16_384;
@@ -25,7 +27,7 @@ const PIECE: usize = 16_384;
 /// bytes come that are no reply, also behind a reply; the next leg opens another.
 ///
 /// A server may have closed a kept connection while it was idle. So a leg that is lost over a kept connection is sent once
-/// more over a new one, where it may be (`may_ask_again`).
+/// more over a new one, where it may be (`may_ask_again`). One whose time ran out may not be; its connection is closed.
 #[derive(Drop)]
 pub struct TcpLink<D: Dial, N: Notices> {
     alloc: Global,
@@ -48,6 +50,8 @@ struct Written<S: Drop> {
 pub struct Begun<S: Drop> {
     text: Vec<u8>,
     over: Option<Written<S>>,
+    /// By when the leg has to have its reply, also over a second connection; None where it may take any time.
+    until: Option<Instant>,
 }
 
 fn fault_of(loss: Loss) -> LinkFault
@@ -55,7 +59,7 @@ fn fault_of(loss: Loss) -> LinkFault
 {
     match loss {
         Loss::Memory => LinkFault::Memory,
-        Loss::Unwritten | Loss::Unread | Loss::Broken => LinkFault::Broken,
+        Loss::Unwritten | Loss::Unread | Loss::Broken | Loss::Late => LinkFault::Broken,
     }
 }
 
@@ -101,30 +105,42 @@ impl<D: Dial, N: Notices> TcpLink<D, N> {
     }
 
     /// Sends a leg over a new connection, where none is kept.
-    fn ask_anew(&mut self, leg: &LegRequest, text: &[u8]) -> Result<Reply, Loss>
+    fn ask_anew(
+        &mut self,
+        leg: &LegRequest,
+        text: &[u8],
+        until: Option<Instant>,
+    ) -> Result<Reply, Loss>
         requires { self.old.kept ≡ None }
         ensures { AsksAnew D.Stream.contents D.Stream.remaining (SpellsReply leg.now.op (arc_value leg.now.rest)) text.now result self.new.kept }
     {
-        match self.dial.dial(self.server.as_str()) {
+        match self.dial.dial(self.server.as_str(), until) {
             Some(stream) => self.ask_over(stream, leg, text),
             None => Err(Loss::Unwritten),
         }
     }
 
-    /// Writes a text to the kept connection, if there is one.
+    /// Writes a text to the kept connection, if there is one. From now on its time runs.
     fn begin(&mut self, text: Vec<u8>) -> Begun<D::Stream>
         ensures over { Begins D.Stream.contents text.items self.old.kept result.over }
         ensures text { result.text ≡ text }
         ensures kept { self.new.kept ≡ None }
     {
+        let until = self.dial.deadline();
         let Some(stream) = self.kept.take() else {
-            return Begun { text, over: None };
+            return Begun {
+                text,
+                over: None,
+                until,
+            };
         };
         let mut stream = stream;
+        stream.bound_by(until);
         let outcome = write_text(&mut stream, text.as_slice());
         Begun {
             text,
             over: Some(Written { stream, outcome }),
+            until,
         }
     }
 
@@ -148,12 +164,12 @@ impl<D: Dial, N: Notices> TcpLink<D, N> {
         requires { self.old.kept ≡ None }
         ensures { GoesOn D.Stream.contents D.Stream.remaining (SpellsReply leg.now.op (arc_value leg.now.rest)) begun.text.items leg.now.op begun.over result self.new.kept }
     {
-        let Begun { text, over } = begun;
+        let Begun { text, over, until } = begun;
         let Some(written) = over else {
-            return self.ask_anew(leg, text.as_slice());
+            return self.ask_anew(leg, text.as_slice(), until);
         };
         match self.finish(written, leg) {
-            Err(loss) if may_ask_again(leg.op, loss) => self.ask_anew(leg, text.as_slice()),
+            Err(loss) if may_ask_again(leg.op, loss) => self.ask_anew(leg, text.as_slice(), until),
             outcome => outcome,
         }
     }
@@ -189,22 +205,23 @@ impl<D: Dial, N: Notices> TcpLink<D, N> {
     }
 
     /// Probes over this connection, and keeps it where the answer is there.
-    fn probe_over(&mut self, stream: D::Stream) -> Result<(), Loss>
+    fn probe_over(&mut self, stream: D::Stream, until: Option<Instant>) -> Result<(), Loss>
         ensures { AsksOver D.Stream.contents D.Stream.remaining AnswersProbe (codes "version" ++ line_end) stream result self.new.kept }
     {
         let mut stream = stream;
+        stream.bound_by(until);
         let outcome = ask_version(self.alloc, &mut stream, self.room.as_mut_slice());
         self.kept = kept_behind(stream, &outcome);
         outcome
     }
 
     /// Probes over a new connection, where none is kept.
-    fn probe_anew(&mut self) -> Result<(), Loss>
+    fn probe_anew(&mut self, until: Option<Instant>) -> Result<(), Loss>
         requires { self.old.kept ≡ None }
         ensures { AsksAnew D.Stream.contents D.Stream.remaining AnswersProbe (codes "version" ++ line_end) result self.new.kept }
     {
-        match self.dial.dial(self.server.as_str()) {
-            Some(stream) => self.probe_over(stream),
+        match self.dial.dial(self.server.as_str(), until) {
+            Some(stream) => self.probe_over(stream, until),
             None => Err(Loss::Unwritten),
         }
     }
@@ -213,11 +230,12 @@ impl<D: Dial, N: Notices> TcpLink<D, N> {
     fn ask_version(&mut self) -> Result<(), Loss>
         ensures { Sends D.Stream.contents D.Stream.remaining AnswersProbe (codes "version" ++ line_end) Op.Get self.old.kept result self.new.kept }
     {
+        let until = self.dial.deadline();
         let Some(stream) = self.kept.take() else {
-            return self.probe_anew();
+            return self.probe_anew(until);
         };
-        match self.probe_over(stream) {
-            Err(loss) if may_ask_again(Op::Get, loss) => self.probe_anew(),
+        match self.probe_over(stream, until) {
+            Err(loss) if may_ask_again(Op::Get, loss) => self.probe_anew(until),
             outcome => outcome,
         }
     }

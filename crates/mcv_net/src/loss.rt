@@ -16,18 +16,21 @@ pub enum Loss {
     Broken,
     /// Memory ran out.
     Memory,
+    /// Its time ran out, before all of it was written or before its reply was there. The server may still perform it.
+    Late,
 }
 
-/// Whether a leg of this operation that was lost so may be sent once more: where nothing of it was written, and, if it sends no
-/// value to be stored, also where nothing was read. To perform these twice leaves what once does. An add that was performed
-/// would reply NOT_STORED, a cas EXISTS, an append would add twice, and a set or a replace might write over what another
-/// client has written between.
+/// Whether a leg of this operation that was lost so may be sent once more: where nothing of it was written, and, if it neither
+/// sends a value to be stored nor changes a number, also where nothing was read. To perform these twice leaves what once does.
+/// An add that was performed would reply NOT_STORED, a cas EXISTS, an append would add twice, an incr count twice, and a set or
+/// a replace might write over what another client has written between. What is late may be performed later than anything that
+/// is sent now, so it isn't sent again.
 pub fn may_ask_again(op: Op, loss: Loss) -> bool
     ensures { result ≡ may_repeat op loss }
 {
     match loss {
         Loss::Unwritten => true,
-        Loss::Unread => !op.is_storing(),
-        Loss::Broken | Loss::Memory => false,
+        Loss::Unread => !(op.is_storing() || op.is_adjusting()),
+        Loss::Broken | Loss::Memory | Loss::Late => false,
     }
 }

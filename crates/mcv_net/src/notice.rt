@@ -20,6 +20,8 @@ pub enum Notice<'a> {
     Deaf,
     /// They are accepted again.
     Hearing,
+    /// There is no limit to how long a server may take.
+    Unlimited,
 }
 
 impl<'a> fmt::Display for Notice<'a> {
@@ -32,6 +34,10 @@ impl<'a> fmt::Display for Notice<'a> {
             Notice::Unserved => write!(f, "mcv: no thread for a session"),
             Notice::Deaf => write!(f, "mcv: clients can't be accepted"),
             Notice::Hearing => write!(f, "mcv: clients are accepted again"),
+            Notice::Unlimited => write!(
+                f,
+                "mcv: no --server-timeout: a server that never answers will stop all clients"
+            ),
         }
     }
 }

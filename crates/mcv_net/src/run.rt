@@ -5,9 +5,11 @@ ghost use Rattle.std.specs.Prelude.{◌≡◌, IfErr};
 use crate::fault::NetFault;
 use crate::gates::NetGates;
 use crate::lines::{closed_line, print_line};
+use crate::notice::{Notice, Notices, StandardError};
 use mcv_check::Accepted;
 use mcv_proxy::start;
 use mcv_spool::{Disk, FileDisk};
+use mcv_words::{RunOptions, Settings};
 use std::alloc::Global;
 use std::io;
 use std::io::{Eprint, Write};
@@ -16,8 +18,8 @@ use std::rt::Clock;
 use std::sync::{Arc, Wait};
 use std::thread::Threads;
 
-/// Serves so many clients of a listener, by so many proxies side by side, by what the checker accepted and with the spool on a
-/// disk. Once the spool is open and the workers run it prints `mcv listening <address> pending <n>`, where n is the number of records pending in the spool;
+/// Serves clients of a listener as the settings say, by what the checker accepted and with the spool on a disk. Without a limit
+/// for servers it says on standard error what that may lead to. Once the spool is open and the workers run it prints `mcv listening <address> pending <n>`, where n is the number of records pending in the spool;
 /// once the last session has ended and the workers have nothing in hand, `mcv closed calls <n>`, where n is the number of
 /// calls begun.
 pub fn run_proxy<D, W, R>(
@@ -26,8 +28,7 @@ pub fn run_proxy<D, W, R>(
     accepted: Arc<Accepted>,
     listener: TcpListener,
     disk: D,
-    sessions: u64,
-    proxies: u64,
+    settings: Settings,
     out: &mut W,
 ) -> Result<(), NetFault>
 where
@@ -43,7 +44,10 @@ where
         + Send
         + 'static,
 {
-    let gates = NetGates::new(rt, alloc, listener, disk, sessions, proxies, &mut *out);
+    if settings.server_timeout.is_none() {
+        StandardError { rt }.note(Notice::Unlimited);
+    }
+    let gates = NetGates::new(rt, alloc, listener, disk, settings, &mut *out);
     let report = start(rt, alloc, accepted, gates)?;
     let line = closed_line(alloc, report)?;
     print_line(out, line.as_slice())?;
@@ -79,15 +83,12 @@ impl SpoolFiles for HostRuntime {
     }
 }
 
-/// Listens at an address, opens the spool of a file's name, and serves so many clients by so many proxies (`run_proxy`).
+/// Listens at the address, opens the spool, and serves clients (`run_proxy`), all as the options say.
 pub fn serve<W, R>(
     rt: R,
     alloc: Global,
     accepted: Arc<Accepted>,
-    address: &str,
-    spool: &str,
-    sessions: u64,
-    proxies: u64,
+    options: RunOptions<'_>,
     out: &mut W,
 ) -> Result<(), NetFault>
 where
@@ -103,7 +104,7 @@ where
         + Send
         + 'static,
 {
-    let listener = listen(&rt, address)?;
-    let disk = rt.open_spool(spool)?;
-    run_proxy(rt, alloc, accepted, listener, disk, sessions, proxies, out)
+    let listener = listen(&rt, options.listen)?;
+    let disk = rt.open_spool(options.spool)?;
+    run_proxy(rt, alloc, accepted, listener, disk, options.settings, out)
 }

@@ -2,7 +2,7 @@
 
 ghost use Rattle.std.specs.Prelude.{◌≡◌, ◌+◌};
 
-use crate::memory::{Course, MemoryDial, Nobody, Seen};
+use crate::memory::{Course, End, MemoryDial, Nobody, Seen};
 use mcv_base::{LegRequest, Op, Reply, Rest};
 use mcv_check::Accepted;
 use mcv_hub::{Hub, Pass};
@@ -19,7 +19,7 @@ const CONFIG: &str = "{\"pools\":{\"A\":{\"servers\":[\"a:11211\"]}},\"route\":\
 
 /// What the checker accepts of a configuration.
 pub(crate) fn accepted_of(rt: &impl Abort, alloc: Global, text: &str) -> Arc<Accepted> {
-    let judgement = judge_input(alloc, &mut text.as_bytes());
+    let judgement = judge_input(alloc, &mut text.as_bytes(), 0);
     match judgement.expect(rt, "a configuration") {
         Judgement::Covered { accepted, .. } => Arc::new(alloc, accepted).expect(rt, "memory"),
         Judgement::Lost { .. } => panic!(rt; "the routes aren't covered"),
@@ -49,6 +49,7 @@ fn leg_of(rt: &impl Abort, alloc: Global, op: Op) -> LegRequest {
         exptime: 0,
         body: Arc::new(alloc, body).expect(rt, "memory"),
         cas: None,
+        delta: 5,
     }
 }
 
@@ -59,6 +60,7 @@ fn letter(outcome: &Result<Reply, LinkFault>) -> u8 {
         Ok(Reply::Miss) => b'm',
         Ok(Reply::Stored) => b's',
         Ok(Reply::Deleted) => b'd',
+        Ok(Reply::Number(6)) => b'6',
         Ok(_) => b'?',
         Err(LinkFault::Broken) => b'b',
         Err(LinkFault::Memory) => b'o',
@@ -82,6 +84,7 @@ const ROWS: &[Row] = &[
         courses: &[Course {
             pieces: &["VALUE k 0 1\r", "\nx", "\r\nEND\r", "\n"],
             writes: 9,
+            end: End::Closed,
         }],
         ops: &[Op::Get],
         letters: "h",
@@ -94,10 +97,12 @@ const ROWS: &[Row] = &[
             Course {
                 pieces: &["DELETED\r\n"],
                 writes: 9,
+                end: End::Closed,
             },
             Course {
                 pieces: &["DELETED\r\n"],
                 writes: 9,
+                end: End::Closed,
             },
         ],
         ops: &[Op::Delete, Op::Delete],
@@ -111,10 +116,12 @@ const ROWS: &[Row] = &[
             Course {
                 pieces: &["STORED\r\n"],
                 writes: 9,
+                end: End::Closed,
             },
             Course {
                 pieces: &["END\r\n"],
                 writes: 9,
+                end: End::Closed,
             },
         ],
         ops: &[Op::Add, Op::Add, Op::Get],
@@ -123,15 +130,36 @@ const ROWS: &[Row] = &[
         text: "add k 0 0 1\r\nx\r\nadd k 0 0 1\r\nx\r\nget k\r\n",
     },
     Row {
+        name: "an incr doesn't; the next leg opens another connection",
+        courses: &[
+            Course {
+                pieces: &["6\r\n"],
+                writes: 9,
+                end: End::Closed,
+            },
+            Course {
+                pieces: &["END\r\n"],
+                writes: 9,
+                end: End::Closed,
+            },
+        ],
+        ops: &[Op::Incr, Op::Incr, Op::Get],
+        letters: "6bm",
+        dials: 2,
+        text: "incr k 5\r\nincr k 5\r\nget k\r\n",
+    },
+    Row {
         name: "an add of which nothing was written does",
         courses: &[
             Course {
                 pieces: &["STORED\r\n"],
                 writes: 1,
+                end: End::Closed,
             },
             Course {
                 pieces: &["STORED\r\n"],
                 writes: 9,
+                end: End::Closed,
             },
         ],
         ops: &[Op::Add, Op::Add],
@@ -145,16 +173,56 @@ const ROWS: &[Row] = &[
             Course {
                 pieces: &["END\r\n", "EN"],
                 writes: 9,
+                end: End::Closed,
             },
             Course {
                 pieces: &["END\r\n"],
                 writes: 9,
+                end: End::Closed,
             },
         ],
         ops: &[Op::Get, Op::Get, Op::Get],
         letters: "mbm",
         dials: 2,
         text: "get k\r\nget k\r\nget k\r\n",
+    },
+    Row {
+        name: "a delete whose time ran out isn't repeated; the next leg opens another connection",
+        courses: &[
+            Course {
+                pieces: &["DELETED\r\n"],
+                writes: 9,
+                end: End::Late,
+            },
+            Course {
+                pieces: &["END\r\n"],
+                writes: 9,
+                end: End::Closed,
+            },
+        ],
+        ops: &[Op::Delete, Op::Delete, Op::Get],
+        letters: "dbm",
+        dials: 2,
+        text: "delete k\r\ndelete k\r\nget k\r\n",
+    },
+    Row {
+        name: "nor is a get whose time ran out before it was written",
+        courses: &[
+            Course {
+                pieces: &["END\r\n"],
+                writes: 1,
+                end: End::Late,
+            },
+            Course {
+                pieces: &["END\r\n"],
+                writes: 9,
+                end: End::Closed,
+            },
+        ],
+        ops: &[Op::Get, Op::Get, Op::Get],
+        letters: "mbm",
+        dials: 2,
+        text: "get k\r\nget k\r\n",
     },
     Row {
         name: "there is no server",
@@ -286,5 +354,11 @@ fn notices_are_lines(rt: HostRuntime) {
         alloc,
         Notice::Refusing,
         "mcv: the spool refuses records",
+    );
+    check_notice(
+        &rt,
+        alloc,
+        Notice::Unlimited,
+        "mcv: no --server-timeout: a server that never answers will stop all clients",
     );
 }

@@ -3,6 +3,7 @@
 use crate::links::accepted_of;
 use mcv_check::Accepted;
 use mcv_net::{SpoolFiles, listen, run_proxy};
+use mcv_words::{InRange, Proxies, ServerTimeout, Sessions, Settings, Window};
 use std::alloc::Global;
 use std::io::{Eprint, Read, Write};
 use std::net::{Net, TcpListener, TcpStream};
@@ -100,6 +101,17 @@ fn lines_of(rt: &impl Abort, alloc: Global, address: &str, visit: &Visit) -> Str
     lines.expect(rt, "memory")
 }
 
+/// So many clients, served by so many proxies, with half a minute for each reply.
+fn settings_of(rt: &impl Abort, visit: &Visit) -> Settings {
+    Settings {
+        sessions: Some(Sessions::new(visit.clients).expect(rt, "some clients")),
+        proxies: Proxies::new(visit.proxies).expect(rt, "some proxies"),
+        window: Window::new(0).expect(rt, "a window"),
+        server_timeout: ServerTimeout::new(30_000),
+        client_timeout: None,
+    }
+}
+
 /// Whether proxies to one server, with the spool in this file, serve clients so.
 fn is_served<R>(rt: R, alloc: Global, server: &str, spool: &str, visit: Visit) -> bool
 where
@@ -119,9 +131,9 @@ where
     let listener = listen(&rt, "127.0.0.1:0").expect(&rt, "a listener");
     let address = address_of(&rt, alloc, &listener);
     let lines = lines_of(&rt, alloc, address.as_str(), &visit);
+    let settings = settings_of(&rt, &visit);
     let Visit {
         clients,
-        proxies,
         request,
         reply,
         ..
@@ -133,9 +145,7 @@ where
     let client = client.expect(&rt, "a thread");
     let mut out = Vec::new(alloc);
     let disk = rt.open_spool(spool).expect(&rt, "a spool");
-    let ran = run_proxy(
-        rt, alloc, accepted, listener, disk, clients, proxies, &mut out,
-    );
+    let ran = run_proxy(rt, alloc, accepted, listener, disk, settings, &mut out);
     let is_answered = client.join(&rt);
     ran.is_ok() && is_answered && out.as_slice() == lines.as_bytes()
 }

@@ -23,6 +23,7 @@ fn pair_with(alloc: Global, block: &Block, leaf: &Leg, reason: Reason) -> Result
         route: block.spot.route,
         class: Vec::from_slice(alloc, block.spot.class)?,
         era: block.spot.era,
+        get_era: block.spot.get_era,
         leaf: leaf.position.copy(alloc)?,
     };
     Ok(Pair::new(place, reason))

@@ -146,10 +146,10 @@ module _ (I O W : RattleType) where
 
 module _ (B T D : RattleType) (b : Ghosts B.Denot) (t : Ghosts T.Denot) (d : disk.Ghosts D.Denot) where
   shared_send : IsSend D → IsSend (Shared.the_row B T D d b t)
-  shared_send s = search (accepted_send, accepted_sync, hub_send, lanes_send, spool.the_send, ends_send, sendable, crosses) depth 24
+  shared_send s = search (accepted_send, accepted_sync, hub_send, lanes_send, spool.the_send, ends_send, sender.the_send, sendable, crosses) depth 24
 
   shared_sync : IsSend D → IsSync (Shared.the_row B T D d b t)
-  shared_sync s = search (accepted_send, accepted_sync, hub_sync, lanes_sync, spool.the_send, ends_sync, sendable, crosses) depth 24
+  shared_sync s = search (accepted_send, accepted_sync, hub_sync, lanes_sync, spool.the_send, ends_sync, sender.the_sync, sendable, crosses) depth 24
 
   pub shared_shared : IsSend D → IsSend (Arc.the_row (Shared.the_row B T D d b t) Heap.the_row ghosts)
   shared_shared s = Arc-send (Shared.the_row B T D d b t) (shared_send s) (shared_sync s)

@@ -8,33 +8,27 @@ use Rattle.mcv_base.specs.declared.request.CallId.{CallId}
 use Rattle.mcv_core.specs.View.{core_view}
 use Rattle.mcv_core.specs.declared.fault.CoreFault.{CoreFault}
 use Rattle.mcv_core.specs.declared.fault.CoreFault.TheVariants.{NoSuchCall}
+use Rattle.mcv_hub.specs.Events.{IsReceived}
 use Rattle.mcv_hub.specs.State.{HistoryKeepsDeletes, HubView, IsCallOf, Replies}
 use Rattle.mcv_hub.specs.declared.seat.TakenReply.{TakenReply}
 use Rattle.mcv_proxy.specs.Desk.{AreTaken, WasTaken}
 
 -- by what the hub says of a reply that it hands out
-pub was_taken : (v : HubView) (call : CallId) (o : Option TakenReply) (t : TakenReply) → o ≡ Some t → HistoryKeepsDeletes (core_view v.core) v.history
-    → IfSome o (λ t. (t.receipt.chapter ≡ v.chapter) × (t.receipt.entry ≡ length v.history) × (t.receipt.call ≡ call)) → IfSome o (λ t. Replies v call.0 (part_value t.reply))
-    → IfSome o (λ t. IsCallOf v call.0 t.asked.op t.asked.route t.asked.rest) → WasTaken t
-was_taken v call None t e keeps r p a = absurd (none e)
-  where
-    none : None ≡ Some t → ⊥
-    none n = cc
-was_taken v call (Some x) t e keeps r p a =
-    let same : x ≡ t = one e in
-    let P : CallId → Type 0 = λ n. Replies v n.0 (part_value x.reply) in
-    let Q : CallId → Type 0 = λ n. IsCallOf v n.0 x.asked.op x.asked.route x.asked.rest in
-    subst WasTaken same (record { state = v; keeps = keeps; asked = subst Q (sym r.2) a; reply = subst P (sym r.2) p; chapter = r.0; entry = r.1 })
-  where
-    one : Some x ≡ Some t → x ≡ t
-    one n = cc
+was_taken : (v : HubView) (call : CallId) (t : TakenReply) → HistoryKeepsDeletes (core_view v.core) v.history → IsReceived v call t → WasTaken t
+was_taken v call t keeps h =
+    let P : CallId → Type 0 = λ n. Replies v n.0 (part_value t.reply) in
+    let Q : CallId → Type 0 = λ n. IsCallOf v n.0 t.asked.op t.asked.route t.asked.rest in
+    record { state = v; keeps = keeps; asked = subst Q (sym h.call_is) h.asked; reply = subst P (sym h.call_is) h.reply; chapter = h.chapter; entry = h.entry }
 
-pub found_was_taken : (v : HubView) (call : CallId) (r : Result (Option TakenReply) CoreFault) → HistoryKeepsDeletes (core_view v.core) v.history
-    → IfOk r (λ o. IfSome o (λ t. (t.receipt.chapter ≡ v.chapter) × (t.receipt.entry ≡ length v.history) × (t.receipt.call ≡ call))) → IfOk r (λ o. IfSome o (λ t. Replies v call.0 (part_value t.reply)))
-    → IfOk r (λ o. IfSome o (λ t. IsCallOf v call.0 t.asked.op t.asked.route t.asked.rest)) → IfOk r (λ o. IfSome o WasTaken)
-found_was_taken v call (Ok None) keeps r p a = tt
-found_was_taken v call (Ok (Some t)) keeps r p a = was_taken v call (Some t) t refl keeps r p a
-found_was_taken v call (Err fault) keeps r p a = tt
+pub found_was_taken : (v : HubView) (call : CallId) (r : Result (Option TakenReply) CoreFault) → HistoryKeepsDeletes (core_view v.core) v.history → IfOk r (λ o. IfSome o (IsReceived v call)) → IfOk r (λ o. IfSome o WasTaken)
+found_was_taken v call (Ok None) keeps h = tt
+found_was_taken v call (Ok (Some t)) keeps h = was_taken v call t keeps h
+found_was_taken v call (Err fault) keeps h = tt
+
+pub found_call : (v : HubView) (call : CallId) (r : Result (Option TakenReply) CoreFault) → IfOk r (λ o. IfSome o (IsReceived v call)) → IfOk r (λ o. IfSome o (λ t. t.receipt.call ≡ call))
+found_call v call (Ok None) h = tt
+found_call v call (Ok (Some t)) h = h.call_is
+found_call v call (Err fault) h = tt
 
 -- the replies to one call more
 one_more_call : (calls : List CallId) (done : ℕ) (d : CallId) (taken : List TakenReply) (t : TakenReply) → done < length calls → t.receipt.call ≡ get_or calls done d

@@ -1,21 +1,19 @@
 -- What is known of legs that threads have in hand: what was seen under the lock, and what links answered (own).
-use Rattle.std.specs.Prelude.{◌≡◌, ℕ, Bool, false, List, Option, Some, None, Result, Ok, Err, ⊤, slice_get}
+use Rattle.std.specs.Prelude.{◌≡◌, ℕ, Bool, false, List, Option, Some, Result, Ok, Err, ⊤, slice_get}
 use Rattle.mcv_base.specs.Reply.{ReplyValue, reply_value}
 use Rattle.mcv_base.specs.declared.reply.Reply.{Reply}
 use Rattle.mcv_base.specs.declared.request.LegId.{LegId}
 use Rattle.mcv_base.specs.declared.request.LegRequest.{LegRequest}
 use Rattle.mcv_base.specs.declared.request.ServerId.{ServerId}
-use Rattle.mcv_queues.specs.Numbers.{IsLeast}
-use Rattle.mcv_world.specs.World.{put}
-use Rattle.mcv_events.specs.Rows as rows
 use Rattle.mcv_events.specs.Rows.{LegRow}
-use Rattle.mcv_core.specs.CoreView.{answer_at, in_row_state, is_waiting}
+use Rattle.mcv_core.specs.Events.{IsAnsweredLeg, IsNext as IsNextOf}
 use Rattle.mcv_core.specs.Readers.{IsFirstHeld}
 use Rattle.mcv_core.specs.Requests.{asked_at, asked_by}
 use Rattle.mcv_core.specs.View.{core_view, records_of}
 use Rattle.mcv_core.specs.declared.step.LegState.TheVariants.{Performed}
 use Rattle.mcv_core.specs.declared.step.Step.{Step}
-use Rattle.mcv_hub.specs.State.{HistoryKeepsDeletes, HubView, IsLegEvent, IsSameBooks}
+use Rattle.mcv_hub.specs.Events.{IsHubEvent}
+use Rattle.mcv_hub.specs.State.{HistoryKeepsDeletes, HubView}
 use Rattle.mcv_spool.specs.declared.record.SpoolRecord.{SpoolRecord}
 use Rattle.mcv_proxy.specs.declared.gates.LinkFault.{LinkFault}
 use Rattle.mcv_proxy.specs.declared.gates.LinkFault.TheVariants.{Broken, Memory}
@@ -26,13 +24,9 @@ use Rattle.mcv_proxy.specs.declared.gates.LinkFault.TheVariants.{Broken, Memory}
 abbrev pub is_marked : HubView → ServerId → Bool
 is_marked v server = ((core_view v.core).marks server.0).marked
 
--- no leg of the server was in flight; now the first is that waited for it
-pub record IsNext (server : ServerId) (leg : LegId) (old new : HubView) : Type 0 where
-  pub free : (core_view old.core).flights server.0 ≡ None
-  pub first : IsLeast (λ n. is_waiting server.0 ((core_view old.core).rows.legs n)) (Some leg.0)
-  pub view : core_view new.core ≡ record (core_view old.core) { rows = in_row_state (core_view old.core).rows leg.0 rows.Sent; flights = put (core_view old.core).flights server.0 (Some leg.0) }
-  pub history : new.history ≡ old.history
-  pub books : IsSameBooks old new
+-- the server's first waiting leg came in flight
+abbrev pub IsNext : ServerId → LegId → HubView → HubView → Type 0
+IsNext server leg old new = IsHubEvent (IsNextOf (core_view old.core) server (Ok leg)) old new
 
 -- the leg came in flight so in this state, behind one in which deletes are kept
 pub record CameInFlight (server : ServerId) (leg : LegId) (state : HubView) : Type 0 where
@@ -94,7 +88,7 @@ pub record WasPerformed (number : Option ℕ) : Type 0 where
   pub stored : records_of before.core leg.0 ≡ number
   pub reply : ReplyValue
   pub step : Step
-  pub event : IsLegEvent (answer_at (core_view before.core) leg.0 reply) reply leg before after (Ok step)
+  pub event : IsHubEvent (IsAnsweredLeg (core_view before.core) leg reply (Ok step)) before after
   pub performed : step.state ≡ Performed
 
 -- ---- which leg is spooled

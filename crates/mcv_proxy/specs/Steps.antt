@@ -3,12 +3,13 @@ use Rattle.std.specs.Prelude.{◌≡◌, Bool, true, false, Some, Result, Ok, Er
 use Rattle.mcv_base.specs.Reply.{ReplyValue}
 use Rattle.mcv_base.specs.declared.request.LegId.{LegId}
 use Rattle.mcv_base.specs.declared.request.ServerId.{ServerId}
-use Rattle.mcv_core.specs.CoreView.{answer_at}
+use Rattle.mcv_core.specs.Events.{IsAnsweredLeg}
 use Rattle.mcv_core.specs.Requests.{asked_at, asked_by}
 use Rattle.mcv_core.specs.View.{core_view}
 use Rattle.mcv_core.specs.declared.fault.CoreFault.{CoreFault}
 use Rattle.mcv_core.specs.declared.step.Step.{Step}
-use Rattle.mcv_hub.specs.State.{HubView, IsLegEvent}
+use Rattle.mcv_hub.specs.Events.{IsHubEvent}
+use Rattle.mcv_hub.specs.State.{HubView}
 use Rattle.mcv_spool.specs.declared.fault.SpoolFault.{SpoolFault}
 use Rattle.mcv_spool.specs.declared.fault.SpoolFault.TheVariants as spool
 use Rattle.mcv_proxy.specs.Events.{IsLoss}
@@ -39,7 +40,7 @@ IsDeparture server old new (Lost leg) = IsGivenUp server leg old new
 
 -- a leg in flight is answered, or lost
 abbrev pub IsLanding : ServerId → LegId → Result ReplyValue LinkFault → HubView → HubView → Result Step CoreFault → Type 0
-IsLanding server leg (Ok x) old new result = IsLegEvent (answer_at (core_view old.core) leg.0 x) x leg old new result
+IsLanding server leg (Ok x) old new result = IsHubEvent (IsAnsweredLeg (core_view old.core) leg x result) old new
 IsLanding server leg (Err fault) old new result = IsLoss server leg old new result
 
 -- what came of a leg in flight was reported
@@ -50,7 +51,7 @@ pub record IsReported (server : ServerId) (leg : LegId) (reply : Result ReplyVal
 -- a leg in flight was answered
 pub record WasAnswered (leg : LegId) (reply : ReplyValue) (old new : HubView) : Type 0 where
   pub result : Result Step CoreFault
-  pub event : IsLegEvent (answer_at (core_view old.core) leg.0 reply) reply leg old new result
+  pub event : IsHubEvent (IsAnsweredLeg (core_view old.core) leg reply result) old new
 
 -- after such a fault the spool answers nothing else before it is opened again
 abbrev pub breaks_spool : SpoolFault → Bool

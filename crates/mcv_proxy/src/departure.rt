@@ -1,11 +1,10 @@
 //! The next leg of a server comes in flight.
 
-ghost use Rattle.std.specs.Prelude.{◌≡◌, ◌⊎◌, false, None, Some, IfErr, IfOk, IfSome, IsSome, OnErr};
-ghost use Rattle.mcv_queues.specs.Numbers.{IsLeast};
-ghost use Rattle.mcv_core.specs.CoreView.{is_waiting};
+ghost use Rattle.std.specs.Prelude.{◌≡◌, false, Some, Err, IfErr, IfOk, IfSome};
+ghost use Rattle.mcv_core.specs.Events.{IsNext};
 ghost use Rattle.mcv_core.specs.Requests.{asked_at, asked_by};
 ghost use Rattle.mcv_core.specs.View.{core_view};
-ghost use Rattle.mcv_hub.specs.State.{IsSame};
+ghost use Rattle.mcv_hub.specs.Events.{IsHubEvent};
 ghost use Rattle.mcv_proxy.specs.Flights.{CameInFlight, is_marked};
 ghost use Rattle.mcv_proxy.specs.Steps.{IsDeparture};
 
@@ -64,10 +63,7 @@ pub(crate) fn take_next<B: Ledger, T: Ledger>(
     server: ServerId,
 ) -> Result<Departure, CoreFault>
     ensures departs { IfOk result (IsDeparture server guard.old guard.new) }
-    ensures busy { IfErr result (λ fault. fault ≡ CoreFault.Busy → IsSome ((core_view guard.old.core).flights server.0)) }
-    ensures nothing { IfErr result (λ fault. fault ≡ CoreFault.NothingWaiting → ((core_view guard.old.core).flights server.0 ≡ None) × IsLeast (λ n. is_waiting server.0 ((core_view guard.old.core).rows.legs n)) None) }
-    ensures only { IfErr result (λ fault. (fault ≡ CoreFault.Busy) ⊎ (fault ≡ CoreFault.NothingWaiting)) }
-    ensures err { OnErr result (IsSame guard.old guard.new) }
+    ensures refused { IfErr result (λ fault. IsHubEvent (IsNext (core_view guard.old.core) server (Err fault)) guard.old guard.new) }
 {
     guard.deletes_are_kept();
     let leg = guard.next(server)?;

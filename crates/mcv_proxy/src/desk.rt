@@ -233,9 +233,9 @@ impl Patience {
     }
 }
 
-/// Begins a call. Where the chapter has no place for it, a new chapter begins first. The first key of a request waits for
-/// that a second at most, while calls run or legs are queued; for another one the request's own calls run, so it is
-/// refused.
+/// Begins a call. Where the chapter has no place for it, a new chapter begins first, and the call is begun once more. The
+/// first key of a request waits for that a second at most, while calls run or legs are queued; for another one the
+/// request's own calls run, so it is refused.
 fn begin_in_chapter<'a, B: Ledger, T: Ledger, R: Wait + Clock>(
     rt: &R,
     alloc: Global,
@@ -253,6 +253,7 @@ fn begin_in_chapter<'a, B: Ledger, T: Ledger, R: Wait + Clock>(
 {
     let mut guard = guard;
     let mut patience = Patience { since: None };
+    let mut has_turned = false;
     for _attempt in rt.forever() {
         let Ok(request) = Arc::try_clone(request) else {
             return (guard, Err(CoreFault::Memory));
@@ -261,11 +262,14 @@ fn begin_in_chapter<'a, B: Ledger, T: Ledger, R: Wait + Clock>(
             Err(CoreFault::ChapterFull) => {}
             answer => return (guard, answer),
         }
-        let has_turned = guard.turn().is_ok();
-        if !has_turned && key > 0 || patience.is_over(rt) {
+        if has_turned {
             return (guard, Err(CoreFault::ChapterFull));
         }
+        has_turned = guard.turn().is_ok();
         if !has_turned {
+            if key > 0 || patience.is_over(rt) {
+                return (guard, Err(CoreFault::ChapterFull));
+            }
             guard = hub.wait_for(rt, guard, Bell::Chapter, Duration::from_millis(PAUSE));
         }
     }

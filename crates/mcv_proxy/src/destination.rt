@@ -17,9 +17,6 @@ use std::marker::PhantomData;
 use std::sync::Wait;
 use std::sync::ledger::Ledger;
 
-/// The most turns of a worker.
-pub(crate) const TURNS: u64 = 1_000_000_000;
-
 /// What a server's worker has to do.
 #[derive(Drop)]
 enum Task {
@@ -171,9 +168,8 @@ pub(crate) fn probe<B: Ledger, T: Ledger, L: Link, R: Wait>(
     true
 }
 
-/// Sends the legs that wait for a server, one at a time, until none waits and the worker is to end, at most 1,000,000,000.
-/// The legs of a marked server are lost without being sent, and after each the server is probed once, as it is where a
-/// session lost one so.
+/// Sends the legs that wait for a server, one at a time, until none waits and the worker is to end. The legs of a
+/// marked server are lost without being sent, and after each the server is probed once, as it is where a session lost one so.
 pub fn serve_destination<B: Ledger, T: Ledger, L: Link, R: Wait>(
     rt: &R,
     alloc: Global,
@@ -186,7 +182,7 @@ pub fn serve_destination<B: Ledger, T: Ledger, L: Link, R: Wait>(
 ) {
     let mut agenda = Agenda::new(alloc, hub);
     let mut sent = None;
-    for _turn in 0..TURNS {
+    for _turn in rt.forever() {
         let task = turn(rt, alloc, lanes, &mut agenda, pass, server, ends, sent);
         sent = match task {
             Task::Send(flight) => Some(send(alloc, &mut agenda, pass, link, flight)),

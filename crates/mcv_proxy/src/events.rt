@@ -1,15 +1,12 @@
 //! Events on the borrowed state, and whom they let go on.
 
-ghost use Rattle.std.specs.Prelude.{◌≡◌, ◌+◌, IfErr, IfOk, OnErr, OnOk, Some};
+ghost use Rattle.std.specs.Prelude.{◌≡◌, ◌+◌, IfErr, OnErr, OnOk};
 ghost use Rattle.std.specs.Arc.{arc_value};
-ghost use Rattle.mcv_base.specs.Reply.{fixed_value, not_found};
-ghost use Rattle.mcv_base.specs.declared.reply.FixedReply.TheVariants.{Lost as lost_reply};
 ghost use Rattle.mcv_pools.specs.Hash.{fnv_index};
-ghost use Rattle.mcv_world.specs.World.{put};
-ghost use Rattle.mcv_core.specs.Asking.{IsRefusedFor};
-ghost use Rattle.mcv_core.specs.CoreView.{answer_at, refusing_at, spooling_at};
-ghost use Rattle.mcv_core.specs.View.{core_view, records_after, records_of};
-ghost use Rattle.mcv_hub.specs.State.{BeginsOne, IsLegEvent, IsSame, IsSameChapter};
+ghost use Rattle.mcv_core.specs.Events.{IsAnsweredLeg, IsBegun, IsRefusedLeg, IsSpooledLeg};
+ghost use Rattle.mcv_core.specs.View.{core_view};
+ghost use Rattle.mcv_hub.specs.Events.{IsHubEvent};
+ghost use Rattle.mcv_proxy.specs.Desk.{IsRefusal};
 ghost use Rattle.mcv_proxy.specs.Events.{IsLoss};
 ghost use Rattle.mcv_proxy.specs.Steps.{IsLanding};
 
@@ -83,6 +80,18 @@ fn note_after<B: Ledger, T: Ledger>(
     }
 }
 
+/// Notes who is to send the legs that a call launched when it began; the first of them would have this number.
+fn note_begun<B: Ledger, T: Ledger>(
+    agenda: &mut Agenda<'_, B, T>,
+    core: &Dispatcher,
+    first: u64,
+    begun: &Result<CallId, CoreFault>,
+) {
+    if let Ok(call) = begun {
+        agenda.note_launched(core, first, &[*call]);
+    }
+}
+
 /// Begins a call for one key of the request.
 pub(crate) fn begin<B: Ledger, T: Ledger>(
     alloc: Global,
@@ -92,20 +101,15 @@ pub(crate) fn begin<B: Ledger, T: Ledger>(
     request: Arc<Request>,
     key: usize,
 ) -> Result<CallId, CoreFault>
-    ensures begins { IfOk result (BeginsOne guard.old guard.new request key) }
-    ensures counted { OnOk result ((guard.new.begun ≡ guard.old.begun + 1) × (guard.new.taken ≡ guard.old.taken)) }
-    ensures shared { OnOk result ((seat.new.begun.amount ≡ seat.old.begun.amount + 1) × (seat.new.taken.amount ≡ seat.old.taken.amount)) }
-    ensures parts { (seat.new.begun.parts ≡ seat.old.begun.parts) × (seat.new.taken.parts ≡ seat.old.taken.parts) }
-    ensures chapter { IsSameChapter guard.old guard.new }
-    ensures refused { IfErr result (IsRefusedFor (core_view guard.old.core) fnv_index (arc_value request) key) }
-    ensures err { OnErr result (IsSame guard.old guard.new) }
-    ensures unshared { OnErr result ((seat.new.begun.amount ≡ seat.old.begun.amount) × (seat.new.taken.amount ≡ seat.old.taken.amount)) }
+    ensures event { IsHubEvent (IsBegun (core_view guard.old.core) fnv_index (arc_value request) key result) guard.old guard.new }
+    ensures begun { OnOk result (seat.new.begun.amount ≡ seat.old.begun.amount + 1) }
+    ensures unbegun { OnErr result (seat.new.begun.amount ≡ seat.old.begun.amount) }
+    ensures taken { seat.new.taken.amount ≡ seat.old.taken.amount }
+    ensures refused { IfErr result IsRefusal }
 {
     let first = guard.core().next_leg();
     let begun = guard.begin(alloc, seat, request, key);
-    if let Ok(call) = &begun {
-        agenda.note_launched(guard.core(), first, &[*call]);
-    }
+    note_begun(agenda, guard.core(), first, &begun);
     begun
 }
 
@@ -117,8 +121,7 @@ pub(crate) fn answered<B: Ledger, T: Ledger>(
     leg: LegId,
     reply: LegReply,
 ) -> Result<Step, CoreFault>
-    ensures event { IsLegEvent (answer_at (core_view guard.old.core) leg.0 reply) reply leg guard.old guard.new result }
-    ensures records { IfOk result (λ step. records_of guard.new.core ≡ records_after step.state leg.0 (records_of guard.old.core)) }
+    ensures { IsHubEvent (IsAnsweredLeg (core_view guard.old.core) leg reply result) guard.old guard.new }
 {
     let concerned = concerned_by(guard.core(), leg);
     let answered = guard.answered(leg, reply);
@@ -173,8 +176,7 @@ pub(crate) fn spooled<B: Ledger, T: Ledger>(
     leg: LegId,
     stored: Stored,
 ) -> Result<Step, CoreFault>
-    ensures event { IsLegEvent (spooling_at (core_view guard.old.core) leg.0 stored.«record».server stored.«record».rest) not_found leg guard.old guard.new result }
-    ensures records { IfOk result (λ step. records_of guard.new.core ≡ put (records_of guard.old.core) leg.0 (Some stored.seq)) }
+    ensures { IsHubEvent (IsSpooledLeg (core_view guard.old.core) leg stored result) guard.old guard.new }
 {
     let concerned = concerned_by(guard.core(), leg);
     let spooled = guard.spooled(leg, stored);
@@ -190,8 +192,7 @@ pub(crate) fn spool_refused<B: Ledger, T: Ledger>(
     guard: &mut Guard<'_, B, T>,
     leg: LegId,
 ) -> Result<Step, CoreFault>
-    ensures event { IsLegEvent (refusing_at (core_view guard.old.core) leg.0) (fixed_value lost_reply) leg guard.old guard.new result }
-    ensures records { records_of guard.new.core ≡ records_of guard.old.core }
+    ensures { IsHubEvent (IsRefusedLeg (core_view guard.old.core) leg result) guard.old guard.new }
 {
     let concerned = concerned_by(guard.core(), leg);
     let refused = guard.spool_refused(leg);

@@ -25,9 +25,6 @@ use std::sync::{Arc, Mutex, Wait};
 use std::thread;
 use std::thread::{JoinHandle, Threads};
 
-/// The most sessions.
-const SESSIONS: u64 = 1_000_000_000;
-
 /// What the hubs share, and what is pending.
 #[derive(Drop)]
 struct Store<D: Disk> {
@@ -227,7 +224,7 @@ fn deal<G: Gates, R: Wait>(
     requires { 0 < length doors.now }
 {
     let mut watch = gates.watch();
-    for client in 0..SESSIONS {
+    for client in 0..u64::MAX {
         let Some((reader, writer)) = gates.session() else {
             return;
         };

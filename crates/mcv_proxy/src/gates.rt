@@ -6,6 +6,7 @@ use mcv_hub::Pass;
 use mcv_spool::Disk;
 use std::alloc::AllocError;
 use std::io::{Read, Write};
+use std::time::Duration;
 use thiserror::Error;
 
 /// Why a server's reply can't be had.
@@ -66,6 +67,11 @@ pub trait Watch: Drop {
 
     /// Waits for a second.
     fn pause(&mut self);
+
+    /// For how long a spool that has refused a record isn't asked again.
+    fn respite(&self) -> Duration {
+        Duration::from_secs(1)
+    }
 
     /// Notes that the spool refuses records from now on.
     fn note_refusing(&mut self) {}

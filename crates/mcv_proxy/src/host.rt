@@ -7,6 +7,7 @@ use crate::ends::Ends;
 use crate::fault::ProxyFault;
 use crate::gates::{Link, Watch};
 use crate::lanes::{Lanes, Links};
+use crate::running::Running;
 use crate::sums::HubReport;
 use crate::threads::{Crew, Done, Shared, Tools, Visitor, admit, server_count, staff};
 use crossbeam_channel::{Receiver, Sender};
@@ -20,10 +21,10 @@ use std::marker::Brand;
 use std::rt::Clock;
 use std::sync::ledger::{Blank, Ledger};
 use std::sync::{Arc, Mutex, Wait};
-use std::thread::{JoinHandle, Threads};
+use std::thread::Threads;
 
-/// How many sessions there are seats for.
-const SEATS: u64 = 1 << 40;
+/// How many sessions there are seats for: more than come.
+const SEATS: u64 = 1 << 62;
 
 /// How many bells sessions wait at.
 const BELLS: usize = 256;
@@ -70,6 +71,7 @@ pub(crate) struct HubParts<D: Disk, L: Drop, I: Read + Drop, O: Write + Drop, W:
 fn open<B: Ledger, T: Ledger, D: Disk>(
     alloc: Global,
     stock: Stock<D>,
+    ended: Sender<usize>,
     begun: Blank,
     taken: Blank,
 ) -> Result<(Shared<B, T, D>, Passes<B, T>), ProxyFault>
@@ -96,6 +98,7 @@ fn open<B: Ledger, T: Ledger, D: Disk>(
         turn_from,
         work_ends: Ends::new(),
         spool_ends: Ends::new(),
+        ended,
     };
     Ok((shared, passes))
 }
@@ -108,7 +111,39 @@ fn say_ready<R: Wait>(rt: &R, ready: Sender<()>) -> Result<(), AllocError> {
     }
 }
 
-/// Serves the clients that come, each in a thread, until no more do.
+/// Starts the session of a client. An error is that there is no memory or no thread for it.
+fn begin_session<
+    B: Ledger + Send + Sync + 'static,
+    T: Ledger + Send + Sync + 'static,
+    D: Disk + Send + 'static,
+    L: Link + Send + 'static,
+    I: Read + Drop + Send + 'static,
+    O: Write + Drop + Send + 'static,
+    W: Watch + Send + 'static,
+    R: Threads + Wait + Clock + Copy + Send + 'static,
+>(
+    rt: R,
+    alloc: Global,
+    shared: &Arc<Shared<B, T, D>>,
+    links: &Arc<Links<L>>,
+    pass: Pass,
+    seat: Seat<B, T>,
+    visitor: Visitor<I, O, W>,
+    running: &mut Running<B, T>,
+) -> Result<(), AllocError>
+where
+    L::Begun: Send + 'static,
+{
+    let number = running.next_number()?;
+    let Some(session) = admit(rt, alloc, shared, links, pass, seat, visitor, number) else {
+        return Err(AllocError);
+    };
+    running.add(session);
+    Ok(())
+}
+
+/// Serves the clients that come, each in a thread, until no more do. Sessions that have ended are joined before the next
+/// client is served.
 fn accept<
     B: Ledger + Send + Sync + 'static,
     T: Ledger + Send + Sync + 'static,
@@ -126,51 +161,22 @@ fn accept<
     passes: &mut Passes<B, T>,
     clients: &Receiver<Visitor<I, O, W>>,
     watch: &mut W,
-) -> Vec<JoinHandle<Done<B, T>>>
+    running: &mut Running<B, T>,
+)
 where
     L::Begun: Send + 'static,
 {
-    let mut sessions = Vec::new(alloc);
     for visitor in clients.iter(&rt) {
+        running.reap(&rt);
         let Some(seat) = passes.seat() else {
-            return sessions;
-        };
-        let Ok(()) = sessions.reserve(1) else {
             watch.note_unserved();
             continue;
         };
-        match admit(rt, alloc, shared, links, passes.pass(), seat, visitor) {
-            Some(session) => sessions.push_reserved(session),
-            None => watch.note_unserved(),
+        let pass = passes.pass();
+        if begin_session(rt, alloc, shared, links, pass, seat, visitor, running).is_err() {
+            watch.note_unserved();
         }
     }
-    sessions
-}
-
-/// Waits for the sessions to end, adds their shares to this seat's, and gives the receipts of all. An error is `Memory`.
-fn gather<B: Ledger + Send, T: Ledger + Send, R: Threads>(
-    rt: &R,
-    alloc: Global,
-    sessions: Vec<JoinHandle<Done<B, T>>>,
-    seat: &mut Seat<B, T>,
-) -> Result<Vec<Receipt>, ProxyFault> {
-    let mut receipts = Vec::new(alloc);
-    let mut is_short = false;
-    for session in sessions {
-        let done = session.join(rt);
-        seat.begun.merge(done.seat.begun);
-        seat.taken.merge(done.seat.taken);
-        if receipts
-            .extend_from_slice(done.receipts.as_slice())
-            .is_err()
-        {
-            is_short = true;
-        }
-    }
-    if is_short {
-        return Err(ProxyFault::Memory);
-    }
-    Ok(receipts)
 }
 
 /// Asks the servers' workers and the replayer to end, waits until they have, and then does so with the spool's worker.
@@ -196,8 +202,8 @@ fn dismiss<B: Ledger, T: Ledger, D: Disk, R: Threads + Wait>(
     }
 }
 
-/// Starts all workers, says so, and serves the clients that come: the receipts of their sessions, whose shares are added to
-/// the seat's. Those workers that were started are in the crew.
+/// Starts all workers, says so, and serves the clients that come: what their sessions handed back. Those workers that were
+/// started are in the crew.
 fn serve_all<
     B: Ledger + Send + Sync + 'static,
     T: Ledger + Send + Sync + 'static,
@@ -214,9 +220,9 @@ fn serve_all<
     passes: &mut Passes<B, T>,
     outfit: Outfit<L, W>,
     calls: Calls<I, O, W>,
-    seat: &mut Seat<B, T>,
+    running: Running<B, T>,
     crew: &mut Crew,
-) -> Result<Vec<Receipt>, ProxyFault>
+) -> Result<Done<B, T>, ProxyFault>
 where
     L::Begun: Send + 'static,
 {
@@ -229,11 +235,21 @@ where
     let links = Arc::new(alloc, Links::new(alloc, links)?)?;
     staff(rt, alloc, shared, passes, tools, crew)?;
     say_ready(&rt, ready)?;
-    let sessions = accept(rt, alloc, shared, &links, passes, &clients, &mut watch);
-    gather(&rt, alloc, sessions, seat)
+    let mut running = running;
+    accept(
+        rt,
+        alloc,
+        shared,
+        &links,
+        passes,
+        &clients,
+        &mut watch,
+        &mut running,
+    );
+    running.gather(&rt)
 }
 
-/// Serves all clients, and gives the receipts of their sessions; their shares are added to the seat's.
+/// Serves all clients: what their sessions handed back.
 fn run<
     B: Ledger + Send + Sync + 'static,
     T: Ledger + Send + Sync + 'static,
@@ -250,8 +266,8 @@ fn run<
     passes: &mut Passes<B, T>,
     outfit: Outfit<L, W>,
     calls: Calls<I, O, W>,
-    seat: &mut Seat<B, T>,
-) -> Result<Vec<Receipt>, ProxyFault>
+    running: Running<B, T>,
+) -> Result<Done<B, T>, ProxyFault>
 where
     L::Begun: Send + 'static,
 {
@@ -259,10 +275,10 @@ where
         workers: Vec::new(alloc),
         spool: None,
     };
-    let receipts = serve_all(rt, alloc, shared, passes, outfit, calls, seat, &mut crew);
+    let done = serve_all(rt, alloc, shared, passes, outfit, calls, running, &mut crew);
     let mut pass = passes.pass();
     dismiss(&rt, shared, &mut pass, crew);
-    receipts
+    done
 }
 
 /// Closes the books once all sessions have ended.
@@ -300,16 +316,19 @@ fn conduct<
     passes: Passes<B, T>,
     outfit: Outfit<L, W>,
     calls: Calls<I, O, W>,
+    ended: Receiver<usize>,
 ) -> Result<Report, ProxyFault>
 where
     L::Begun: Send + 'static,
     ensures { IfOk result IsHubReport }
 {
     let mut passes = passes;
-    let Some(mut seat) = passes.seat() else {
+    let Some(seat) = passes.seat() else {
         return Err(ProxyFault::Memory);
     };
-    let receipts = run(rt, alloc, shared, &mut passes, outfit, calls, &mut seat)?;
+    let running = Running::new(alloc, seat, ended);
+    let done = run(rt, alloc, shared, &mut passes, outfit, calls, running)?;
+    let Done { mut seat, receipts } = done;
     let mut pass = passes.pass();
     close(
         &rt,
@@ -346,9 +365,10 @@ where
     requires taken { (taken.name ≡ T.name) × (taken.parts ≡ T.parts) × (taken.parts ≡ SEATS + 1) }
     ensures { IfOk result IsHubReport }
 {
-    let (shared, passes) = open::<B, T, D>(alloc, stock, begun, taken)?;
+    let (to, ended) = crossbeam_channel::unbounded(alloc)?;
+    let (shared, passes) = open::<B, T, D>(alloc, stock, to, begun, taken)?;
     let shared = Arc::new(alloc, shared)?;
-    conduct(rt, alloc, &shared, passes, outfit, calls)
+    conduct(rt, alloc, &shared, passes, outfit, calls, ended)
 }
 
 /// Runs a hub: one worker for each server, one for the spool and the replayer, and each session in its thread. Where there

@@ -21,6 +21,7 @@ mod host;
 mod landing;
 mod lanes;
 mod replay;
+mod running;
 mod seen;
 mod spooling;
 mod sums;

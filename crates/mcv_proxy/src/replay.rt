@@ -6,7 +6,7 @@ ghost use Rattle.mcv_proxy.specs.Flights.{HasReply, is_marked};
 
 use crate::agenda::Agenda;
 use crate::departure::request_of;
-use crate::destination::{TURNS, probe, report_again};
+use crate::destination::{probe, report_again};
 use crate::ends::Ends;
 use crate::gates::{Link, LinkFault, Watch};
 use crate::landing::answer_of;
@@ -187,7 +187,7 @@ fn go_round<B: Ledger, T: Ledger, L: Link, D: Disk, R: Wait>(
 ) -> bool {
     let count = u32::try_from(links.len()).unwrap_or(u32::MAX);
     let mut from = 0;
-    for _turn in 0..TURNS {
+    for _turn in rt.forever() {
         match find(rt, alloc, agenda.hub(), pass, (from, count), ends) {
             Found::Leg(repeat) => {
                 from = repeat.server.0;
@@ -202,12 +202,11 @@ fn go_round<B: Ledger, T: Ledger, L: Link, D: Disk, R: Wait>(
             Found::End => return false,
         }
     }
-    true
+    unreachable!()
 }
 
-/// Goes round the servers and sends the legs again that are in the spool, until it is to end, at most 1,000,000,000 times.
-/// After each round it waits for a second. A server that is marked is probed first. The record of a leg is done once its
-/// server has performed it.
+/// Goes round the servers and sends the legs again that are in the spool, until it is to end. After each round it waits for
+/// a second. A server that is marked is probed first. The record of a leg is done once its server has performed it.
 pub fn serve_replay<B: Ledger, T: Ledger, L: Link, D: Disk, W: Watch, R: Wait>(
     rt: &R,
     alloc: Global,
@@ -220,7 +219,7 @@ pub fn serve_replay<B: Ledger, T: Ledger, L: Link, D: Disk, W: Watch, R: Wait>(
     ends: &Ends,
 ) {
     let mut agenda = Agenda::new(alloc, hub);
-    for _turn in 0..TURNS {
+    for _turn in rt.forever() {
         if !go_round(rt, alloc, lanes, &mut agenda, pass, spool, links, ends) {
             return;
         }

@@ -1,29 +1,30 @@
 //! The worker of the spool.
 
-ghost use Rattle.std.specs.Prelude.{◌≡◌, false, None, Some, IfErr, IfNone, IfOk, IfSome, OnErr, OnOk, is_some};
-ghost use Rattle.mcv_base.specs.Reply.{fixed_value, not_found};
-ghost use Rattle.mcv_base.specs.declared.reply.FixedReply.TheVariants.{Lost as lost_reply};
-ghost use Rattle.mcv_core.specs.CoreView.{refusing_at, spooling_at};
+ghost use Rattle.std.specs.Prelude.{◌≡◌, ◌↔◌, ◌-◌, ◌<◌, ◌≤◌, false, None, Some, IfErr, IfNone, IfOk, IfSome, IsTrue, OnErr, OnOk, is_some};
+ghost use Rattle.std.specs.Duration.{as_nanos};
+ghost use Rattle.std.specs.Time.{instant_nanos};
+ghost use Rattle.mcv_core.specs.Events.{IsRefusedLeg, IsSpooledLeg};
 ghost use Rattle.mcv_core.specs.Readers.{IsFirstHeld};
 ghost use Rattle.mcv_core.specs.View.{core_view};
-ghost use Rattle.mcv_hub.specs.State.{IsLegEvent};
+ghost use Rattle.mcv_hub.specs.Events.{IsHubEvent};
 ghost use Rattle.mcv_spool.specs.FoundFile.{IsFound};
 ghost use Rattle.mcv_proxy.specs.Flights.{IsRecordOf};
 ghost use Rattle.mcv_proxy.specs.Steps.{breaks_spool};
 
 use crate::agenda::Agenda;
-use crate::destination::TURNS;
 use crate::ends::Ends;
 use crate::events::{spool_refused, spooled};
 use crate::gates::Watch;
 use crate::seen::HeldLeg;
 use mcv_base::{LegId, ServerText};
-use mcv_core::{CoreFault, Step};
+use mcv_core::{Change, CoreFault, Step};
 use mcv_hub::{Bell, Guard, Hub, Pass};
 use mcv_spool::{Disk, Spool, SpoolFault, SpoolRecord, Stored};
 use std::alloc::Global;
+use std::rt::Clock;
 use std::sync::ledger::Ledger;
 use std::sync::{Mutex, Wait};
+use std::time::{Duration, Instant};
 
 /// The record of a leg, where these are the texts of the servers.
 fn record_of<B: Ledger, T: Ledger>(
@@ -59,23 +60,77 @@ fn held_leg<B: Ledger, T: Ledger>(
     Some(Some(held))
 }
 
-/// Waits until the spool is to take a leg, and gives it with its record; None once there is none and the worker is to end.
-fn next_held<B: Ledger, T: Ledger, R: Wait>(
+/// What the spool's worker has to do.
+#[derive(Drop)]
+enum Task {
+    /// Write the record of the leg.
+    Write(HeldLeg),
+    /// Ring the session whose delete was refused.
+    Ring,
+    /// End.
+    End,
+}
+
+/// How long it is to a moment; None where it has come.
+fn time_to(moment: Instant, now: Instant) -> Option<Duration>
+    ensures none { IfNone result (instant_nanos moment ≤ instant_nanos now) }
+    ensures some { IfSome result (λ left. (instant_nanos now < instant_nanos moment) × (as_nanos left ≡ instant_nanos moment - instant_nanos now)) }
+{
+    let left = moment.duration_since(now);
+    if left.is_zero() { None } else { Some(left) }
+}
+
+/// For how long the spool isn't asked yet, up to this moment; None where it may be, also where the clock can't be read.
+fn respite_left<R: Clock>(rt: &R, until: Option<Instant>) -> Option<Duration>
+    ensures { IfNone until (result ≡ None) }
+{
+    time_to(until?, Instant::now(rt).ok()?)
+}
+
+/// Whether a leg was refused of which its call had no outcome before: then its session goes on.
+fn is_first_refusal(refused: Result<Step, CoreFault>) -> bool
+    ensures ok { IfOk refused (λ step. IsTrue result ↔ (step.change ≡ Change.Refused)) }
+    ensures err { OnErr refused (result ≡ false) }
+{
+    match refused {
+        Ok(step) => step.change == Change::Refused,
+        Err(_) => false,
+    }
+}
+
+/// Waits until the spool is to take a leg, and may be asked. Until it may, a leg of which its call has no outcome is refused at
+/// once; those come first. A worker that is to end asks it once more.
+fn next_task<B: Ledger, T: Ledger, R: Wait + Clock>(
     rt: &R,
     texts: &[Option<ServerText>],
-    hub: &Hub<B, T>,
+    agenda: &mut Agenda<'_, B, T>,
     pass: &mut Pass,
+    until: Option<Instant>,
     ends: &Ends,
-) -> Option<HeldLeg> {
+) -> Task {
+    let hub = agenda.hub();
     let mut guard = hub.lock(rt, pass);
     for _turn in rt.forever() {
-        if let Some(held) = held_leg(texts, &guard) {
-            return held;
+        let is_last = ends.are_asked();
+        match held_leg(texts, &guard) {
+            Some(Some(held)) => {
+                let Some(left) = respite_left(rt, until) else {
+                    return Task::Write(held);
+                };
+                if is_last {
+                    return Task::Write(held);
+                }
+                let refused = spool_refused(agenda, &mut guard, held.leg);
+                if is_first_refusal(refused) {
+                    return Task::Ring;
+                }
+                agenda.ring_all();
+                guard = hub.wait_for(rt, guard, Bell::Spool, left);
+            }
+            Some(None) => return Task::End,
+            None if is_last => return Task::End,
+            None => guard = hub.wait(rt, guard, Bell::Spool),
         }
-        if ends.are_asked() {
-            return None;
-        }
-        guard = hub.wait(rt, guard, Bell::Spool);
     }
     unreachable!()
 }
@@ -101,8 +156,8 @@ fn settle<B: Ledger, T: Ledger>(
     leg: LegId,
     outcome: Result<Stored, SpoolFault>,
 ) -> Result<Step, CoreFault>
-    ensures stored { IfOk outcome (λ stored. IsLegEvent (spooling_at (core_view guard.old.core) leg.0 stored.«record».server stored.«record».rest) not_found leg guard.old guard.new result) }
-    ensures refused { OnErr outcome (IsLegEvent (refusing_at (core_view guard.old.core) leg.0) (fixed_value lost_reply) leg guard.old guard.new result) }
+    ensures stored { IfOk outcome (λ stored. IsHubEvent (IsSpooledLeg (core_view guard.old.core) leg stored result) guard.old guard.new) }
+    ensures refused { OnErr outcome (IsHubEvent (IsRefusedLeg (core_view guard.old.core) leg result) guard.old guard.new) }
 {
     match outcome {
         Ok(stored) => spooled(agenda, guard, leg, stored),
@@ -144,10 +199,36 @@ fn note<W: Watch>(watch: &mut W, refuses: &mut bool, refused: bool) {
     }
 }
 
-/// Writes the records of deletes that their servers didn't perform, until there is none and the worker is to end, at most
-/// 1,000,000,000. Where a record is refused its leg is reported, the spool is opened again if it has to be, and after a
-/// second the first leg that is held then comes next; a worker that is to end does so.
-pub fn serve_spool<B: Ledger, T: Ledger, D: Disk, W: Watch, R: Wait>(
+/// Writes the record of a held leg, and reports what came of it. Where the spool refused it, it is opened again if it has to
+/// be. Whether it refused.
+fn write_record<B: Ledger, T: Ledger, D: Disk, R: Wait>(
+    rt: &R,
+    agenda: &mut Agenda<'_, B, T>,
+    pass: &mut Pass,
+    spool: &Mutex<Spool<D>>,
+    held: HeldLeg,
+) -> bool {
+    let HeldLeg { leg, delete } = held;
+    let outcome = spool.lock(rt).append(delete);
+    let fault = report(rt, agenda, pass, leg, outcome);
+    agenda.ring_all();
+    let Some(fault) = fault else {
+        return false;
+    };
+    let _ = mend(&mut *spool.lock(rt), fault);
+    true
+}
+
+/// When a spool that has refused a record just now is asked again; None, at once, where the clock can't be read.
+fn asked_again<W: Watch, R: Clock>(rt: &R, watch: &W) -> Option<Instant> {
+    Instant::now(rt).ok()?.checked_add(watch.respite())
+}
+
+/// Writes the records of deletes that their servers didn't perform, until there is none and the worker is to end. Where a
+/// record is refused its leg is reported, the spool is opened again if it has to be, and for a second it isn't asked: legs
+/// that come meanwhile are refused at once. Then the first leg that is held comes next. A worker that is to end ends with the
+/// first record that is refused then.
+pub fn serve_spool<B: Ledger, T: Ledger, D: Disk, W: Watch, R: Wait + Clock>(
     rt: &R,
     alloc: Global,
     texts: &[Option<ServerText>],
@@ -159,20 +240,23 @@ pub fn serve_spool<B: Ledger, T: Ledger, D: Disk, W: Watch, R: Wait>(
 ) {
     let mut agenda = Agenda::new(alloc, hub);
     let mut refuses = false;
-    for _turn in 0..TURNS {
-        let Some(HeldLeg { leg, delete }) = next_held(rt, texts, hub, pass, ends) else {
-            return;
-        };
-        let outcome = spool.lock(rt).append(delete);
-        let fault = report(rt, &mut agenda, pass, leg, outcome);
-        agenda.ring_all();
-        note(watch, &mut refuses, fault.is_some());
-        if let Some(fault) = fault {
-            let _ = mend(&mut *spool.lock(rt), fault);
-            if ends.are_asked() {
-                return;
+    let mut until = None;
+    for _turn in rt.forever() {
+        match next_task(rt, texts, &mut agenda, pass, until, ends) {
+            Task::Write(held) => {
+                let refused = write_record(rt, &mut agenda, pass, spool, held);
+                note(watch, &mut refuses, refused);
+                if refused && ends.are_asked() {
+                    return;
+                }
+                until = if refused {
+                    asked_again(rt, watch)
+                } else {
+                    None
+                };
             }
-            watch.pause();
+            Task::Ring => agenda.ring_all(),
+            Task::End => return,
         }
     }
 }

@@ -7,6 +7,7 @@ use crate::gates::{Link, Watch};
 use crate::lanes::{Lanes, Links};
 use crate::replay::serve_replay;
 use crate::spooling::serve_spool;
+use crossbeam_channel::Sender;
 use mcv_base::{ServerId, ServerText};
 use mcv_check::Accepted;
 use mcv_hub::{Hub, Pass, Passes, Receipt, Seat};
@@ -17,8 +18,10 @@ use std::io::{Read, Write};
 use std::rt::Clock;
 use std::sync::ledger::Ledger;
 use std::sync::{Arc, Mutex, Wait};
-use std::thread;
-use std::thread::{JoinHandle, Threads};
+use std::thread::{Builder, JoinHandle, Threads};
+
+/// The stack of a session's or a worker's thread. At most 36 kB were seen in use.
+const STACK: usize = 256 * 1024;
 
 /// What a session hands back.
 #[derive(Drop)]
@@ -41,6 +44,8 @@ pub(crate) struct Shared<B: Ledger, T: Ledger, D: Disk> {
     pub(crate) work_ends: Ends,
     /// The end of the spool's worker, which comes later.
     pub(crate) spool_ends: Ends,
+    /// A session says its number here as the last thing that it does.
+    pub(crate) ended: Sender<usize>,
 }
 
 /// The workers that run.
@@ -102,11 +107,11 @@ where
         return None;
     };
     let job = move || work(&rt, alloc, &*shared, pass, link, server);
-    thread::spawn(&rt, job).ok()
+    Builder::new().stack_size(STACK).spawn(&rt, job).ok()
 }
 
 /// The work of the spool's worker.
-fn write_down<B: Ledger, T: Ledger, D: Disk, W: Watch, R: Wait>(
+fn write_down<B: Ledger, T: Ledger, D: Disk, W: Watch, R: Wait + Clock>(
     rt: &R,
     alloc: Global,
     shared: &Shared<B, T, D>,
@@ -144,7 +149,7 @@ fn employ_spool<
         return None;
     };
     let job = move || write_down(&rt, alloc, &*shared, texts, pass, watch);
-    thread::spawn(&rt, job).ok()
+    Builder::new().stack_size(STACK).spawn(&rt, job).ok()
 }
 
 /// The work of the replayer.
@@ -193,7 +198,7 @@ where
         return None;
     };
     let job = move || send_again(&rt, alloc, &*shared, pass, links, watch);
-    thread::spawn(&rt, job).ok()
+    Builder::new().stack_size(STACK).spawn(&rt, job).ok()
 }
 
 /// What the thread of a session has of others.
@@ -202,18 +207,22 @@ struct SessionContext<B: Ledger, T: Ledger, D: Disk, L: Link> {
     accepted: Arc<Accepted>,
     shared: Arc<Shared<B, T, D>>,
     links: Arc<Links<L>>,
+    /// The number of the session.
+    number: usize,
 }
 
 impl<B: Ledger, T: Ledger, D: Disk, L: Link> SessionContext<B, T, D, L> {
-    /// That of one more session.
+    /// That of one more session, of this number.
     fn new(
         shared: &Arc<Shared<B, T, D>>,
         links: &Arc<Links<L>>,
+        number: usize,
     ) -> Result<SessionContext<B, T, D, L>, AllocError> {
         Ok(SessionContext {
             accepted: Arc::try_clone(&shared.accepted)?,
             shared: Arc::try_clone(shared)?,
             links: Arc::try_clone(links)?,
+            number,
         })
     }
 }
@@ -226,7 +235,7 @@ pub(crate) struct Visitor<I: Read + Drop, O: Write + Drop, W: Watch> {
     pub(crate) watch: W,
 }
 
-/// Serves a client until its session ends.
+/// Serves a client until its session ends, and says then that it has.
 fn serve<
     B: Ledger,
     T: Ledger,
@@ -248,6 +257,7 @@ fn serve<
         accepted,
         shared,
         links,
+        number,
     } = context;
     let Visitor {
         mut reader,
@@ -261,6 +271,8 @@ fn serve<
     );
     let _ = serve_session(alloc, &mut reader, &mut writer, &mut desk);
     let (seat, receipts) = desk.into_parts();
+    // Without memory for that it is joined once no more clients come.
+    let _ = shared.ended.send(rt, number);
     Done { seat, receipts }
 }
 
@@ -286,10 +298,10 @@ where
     L::Begun: Send + 'static,
 {
     let job = move || serve(&rt, alloc, context, pass, seat, visitor);
-    thread::spawn(&rt, job).ok()
+    Builder::new().stack_size(STACK).spawn(&rt, job).ok()
 }
 
-/// Starts a session on a hub. None where there is no memory or no thread for it.
+/// Starts the session of this number on a hub. None where there is no memory or no thread for it.
 pub(crate) fn admit<
     B: Ledger + Send + Sync + 'static,
     T: Ledger + Send + Sync + 'static,
@@ -307,11 +319,12 @@ pub(crate) fn admit<
     pass: Pass,
     seat: Seat<B, T>,
     visitor: Visitor<I, O, W>,
+    number: usize,
 ) -> Option<JoinHandle<Done<B, T>>>
 where
     L::Begun: Send + 'static,
 {
-    let Ok(context) = SessionContext::new(shared, links) else {
+    let Ok(context) = SessionContext::new(shared, links, number) else {
         return None;
     };
     host(rt, alloc, context, pass, seat, visitor)

@@ -19,7 +19,7 @@ use std::{io, thread};
 
 /// What the checker accepts of a configuration.
 pub(crate) fn accepted_of<R: Abort>(rt: &R, alloc: Global, text: &str) -> Arc<Accepted> {
-    let judgement = judge_input(alloc, &mut text.as_bytes());
+    let judgement = judge_input(alloc, &mut text.as_bytes(), 0);
     match judgement.expect(rt, "a configuration") {
         Judgement::Covered { accepted, .. } => Arc::new(alloc, accepted).expect(rt, "memory"),
         Judgement::Lost { .. } => panic!(rt; "the routes aren't covered"),
@@ -193,6 +193,7 @@ impl<R: Wait + Clock + Drop> Wire<R> {
                 Ok(Reply::Deleted)
             }
             Op::Touch => Ok(Reply::Touched),
+            Op::Incr | Op::Decr => Ok(Reply::Number(6)),
             _ => Ok(Reply::Stored),
         }
     }
@@ -310,6 +311,10 @@ impl Watch for Stopped {
 
     fn pause(&mut self) {
         thread::yield_now();
+    }
+
+    fn respite(&self) -> Duration {
+        Duration::from_millis(1)
     }
 }
 

@@ -23,6 +23,7 @@ pub all_read : (t : Tail) (has : Bool) (read : Head) → AllRead t has read read
 all_read tails.Nothing has read = tt
 all_read tails.Text has read = tt
 all_read tails.Value has read = (refl, refl, same_cas has read)
+all_read tails.Count has read = refl
 
 module _ (has : Bool) (key : List ℕ) (c : Candidate) where
   -- bytes are missing

@@ -4,9 +4,9 @@ use Rattle.std.specs.Prelude.{codes}
 use Rattle.std.specs.List.{All, list_all}
 use Rattle.std.proofs.lemmas.Bool.{and_parts, not-true, eqb-false}
 use Rattle.std.proofs.lemmas.List.Elements.{All-nil, All-cons}
-use Rattle.mcv_base.specs.declared.operation.Op.TheVariants.{Get, Delete}
-use Rattle.mcv_base.specs.Reply.{hit, miss, fault}
-use Rattle.mcv_reply.specs.declared.word.Word.TheVariants.{End, ServerError}
+use Rattle.mcv_base.specs.declared.operation.Op.TheVariants.{Get, Delete, Incr}
+use Rattle.mcv_base.specs.Reply.{hit, miss, number, fault}
+use Rattle.mcv_reply.specs.declared.word.Word.TheVariants.{Count, End, ServerError}
 use Rattle.mcv_reply.specs.declared.word.Row.TheVariants.{Reply}
 use Rattle.mcv_reply.specs.declared.candidate.Head.{Head}
 use Rattle.mcv_reply.specs.Line.{IsLine}
@@ -36,7 +36,7 @@ pub a_fault : Spells Delete (codes "a") (codes " SERVER_ERROR no" ++ 13 ∷ 10 �
 a_fault = alone (record {
   first = ServerError;
   line = codes " SERVER_ERROR no" ++ 13 ∷ [];
-  other = zero_head;
+  head = zero_head;
   line_is = record {
     may = (4, omega arith, refl);
     writes = record { gap = 1; written = codes "SERVER_ERROR"; after = codes " no" ++ 13 ∷ []; parts = refl; enough = omega arith; is = refl; rest = inl refl };
@@ -49,7 +49,7 @@ a_fault = alone (record {
 
 -- the numbers of `VALUE a 007 1`
 abbrev seven_and_one : Head
-seven_and_one = record { flags = 7; size = 1; cas = 0 }
+seven_and_one = record { flags = 7; size = 1; cas = 0; count = 0 }
 
 -- a hit with flags 7 and value `x`, leading zeros and LF alone
 pub a_hit : Spells Get (codes "a") (codes "VALUE a 007 1" ++ 10 ∷ (codes "x" ++ 13 ∷ 10 ∷ (codes "END" ++ 13 ∷ 10 ∷ []))) (hit 7 None (codes "x"))
@@ -100,5 +100,29 @@ a_hit = with_value (record {
   says = refl;
 })
 
+-- a number, with zeros in front and a space behind
+pub a_number : Spells Incr (codes "a") (codes "06 " ++ 13 ∷ 10 ∷ []) (number 6)
+a_number = alone (record {
+  first = Count;
+  line = codes "06 " ++ 13 ∷ [];
+  head = record zero_head { count = 6 };
+  line_is = record {
+    may = (0, omega arith, refl);
+    writes = record {
+      gap = 0;
+      written = codes "06";
+      after = 32 ∷ 13 ∷ [];
+      parts = refl;
+      enough = omega arith;
+      is = ((λ e. absurd (cc)), (omega arith, omega arith, (omega arith, omega arith, tt)), refl, omega arith);
+      rest = inl (refl, inr (refl, refl));
+    };
+    no_end = without_end (codes "06 " ++ 13 ∷ []) refl;
+    short = omega arith;
+  };
+  parts = refl;
+  says = refl;
+})
+
 pub a_miss : Spells Get (codes "a") (codes "END" ++ 13 ∷ 10 ∷ []) miss
-a_miss = alone (record { first = End; line = end_text; other = zero_head; line_is = end_of_get; parts = refl; says = refl })
+a_miss = alone (record { first = End; line = end_text; head = zero_head; line_is = end_of_get; parts = refl; says = refl })

@@ -8,7 +8,7 @@ use Rattle.mcv_reply.specs.declared.candidate.Head.{Head}
 use Rattle.mcv_reply.specs.declared.candidate.Name.{Name}
 use Rattle.mcv_reply.specs.declared.candidate.Name.TheVariants.{First, Key}
 use Rattle.mcv_reply.specs.declared.candidate.Number.{Number}
-use Rattle.mcv_reply.specs.declared.candidate.Number.TheVariants.{Flags, Size, Cas}
+use Rattle.mcv_reply.specs.declared.candidate.Number.TheVariants.{Flags, Size, Cas, Count}
 use Rattle.mcv_reply.specs.declared.candidate.LinePart.{LinePart}
 use Rattle.mcv_reply.specs.declared.candidate.LinePart.TheVariants.{BeforeName, InName, BeforeNumber, InNumber, Blank, Return, Text}
 use Rattle.mcv_reply.specs.Word.{tail_of}
@@ -36,6 +36,7 @@ pub fewest_tail : (t : Tail) (has : Bool) (key : List ℕ) (head : Head) → few
 fewest_tail tails.Nothing has key head = refl
 fewest_tail tails.Text has key head = refl
 fewest_tail tails.Value has key head = omega (arith, fewest_cas has head.cas)
+fewest_tail tails.Count has key head = refl
 
 pub fewest_name : (name : Name) (first : Word) (has : Bool) (key : List ℕ) (head : Head) → fewest (behind_name name first has key head) 1 ≡ fewest (behind_name name first has key zero_head) 1
 fewest_name First first has key head = fewest_tail (tail_of first) has key head
@@ -45,6 +46,7 @@ pub fewest_number : (n : Number) (has : Bool) (head : Head) → fewest (behind_n
 fewest_number Flags has head = omega (arith, fewest_cas has head.cas)
 fewest_number Size has head = fewest_cas has head.cas
 fewest_number Cas has head = refl
+fewest_number Count has head = refl
 
 pub needed_least : (first : Word) (has : Bool) (key : List ℕ) (read : Head) (part : LinePart) (head : Head) (more : List ℕ) → Follows first has key read part head more → needed first has key part ≤ length more
 needed_least first has key read (BeforeName name) head more f = omega (arith, writes_least (word (name_text name first key) ∷ behind_name name first has key head) 0 more f, fewest_name name first has key head)

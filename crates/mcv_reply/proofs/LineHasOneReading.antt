@@ -1,13 +1,15 @@
 -- A line has one reading: its first word and its numbers.
-use Rattle.std.proofs.Common.{◌≡◌, ℕ, suc, zero, ◌<◌, ◌≤◌, inl, inr, Bool, true, false, ltb, cond, eqb, get_or, List, [], ◌∷◌, ◌++◌, length, refl, sym, ap, subst, ◌∙◌, arith}
+use Rattle.std.proofs.Common.{◌≡◌, ℕ, suc, zero, ◌<◌, ◌≤◌, inl, inr, Bool, true, false, ltb, leb, cond, eqb, get_or, List, [], ◌∷◌, ◌++◌, length, refl, sym, ap, subst, ◌∙◌, arith}
 use Rattle.std.specs.List.{list_all}
-use Rattle.std.proofs.lemmas.Bool.{and_parts, and_from, ltb-true, lt-ltb}
+use Rattle.std.proofs.lemmas.Bool.{and_parts, and_from, le-leb, ltb-true, lt-ltb}
 use Rattle.mcv_reply.specs.declared.word.Word.{Word}
-use Rattle.mcv_reply.specs.declared.word.Word.TheVariants.{End, Value, Stored, NotStored, Exists, NotFound, Deleted, Touched, Error, ClientError, ServerError, Version}
+use Rattle.mcv_reply.specs.declared.word.Word.TheVariants.{End, Value, Stored, NotStored, Exists, NotFound, Deleted, Touched, Count, Error, ClientError, ServerError, Version}
 use Rattle.mcv_reply.specs.declared.word.Row.{Row}
+use Rattle.mcv_reply.specs.declared.word.Tail.{Tail}
+use Rattle.mcv_reply.specs.declared.word.Tail.TheVariants as tails
 use Rattle.mcv_reply.specs.declared.candidate.Head.{Head}
 use Rattle.mcv_reply.specs.Word.{has_cas, tail_of, word_text}
-use Rattle.mcv_reply.specs.Line.{Form, word, number, Next, Writes, IsWritten, IsDigits, IsLine, cas_forms, decimal_from, flags_forms, size_forms, spaces, tail_forms}
+use Rattle.mcv_reply.specs.Line.{Form, word, number, Next, Writes, IsWritten, IsDigits, IsLine, cas_forms, decimal_from, first_form, flags_forms, size_forms, spaces, tail_forms}
 use Rattle.mcv_reply.specs.Candidate.{is_clean}
 use Rattle.mcv_reply.proofs.Writing.{Starts, behind_first, number_starts}
 use Rattle.mcv_reply.proofs.Words.{word_clean, word_starts}
@@ -90,9 +92,12 @@ cas_one : (has : Bool) (n v : ℕ) (line other : List ℕ) → line ≡ other �
 cas_one true n v line other e x y is = number_one 18446744073709551615 n v [] [] line other e x y
 cas_one false n v line other e x y is = absurd (cc)
 
--- the word that a text is
+-- the word that a text is, or that it is a number
+abbrev named_word : List ℕ → Word
+named_word bytes = cond (eqb (length bytes) 3) End (cond (eqb (length bytes) 10) NotStored (cond (eqb (length bytes) 9) NotFound (cond (eqb (length bytes) 5) (cond (eqb (get_or bytes 1 0) 65) Value Error) (cond (eqb (length bytes) 6) (cond (eqb (get_or bytes 1 0) 84) Stored Exists) (cond (eqb (length bytes) 12) (cond (eqb (get_or bytes 1 0) 76) ClientError ServerError) (cond (eqb (get_or bytes 1 0) 79) Touched (cond (eqb (get_or bytes 0 0) 68) Deleted Version)))))))
+
 abbrev named : List ℕ → Word
-named bytes = cond (eqb (length bytes) 3) End (cond (eqb (length bytes) 10) NotStored (cond (eqb (length bytes) 9) NotFound (cond (eqb (length bytes) 5) (cond (eqb (get_or bytes 1 0) 65) Value Error) (cond (eqb (length bytes) 6) (cond (eqb (get_or bytes 1 0) 84) Stored Exists) (cond (eqb (length bytes) 12) (cond (eqb (get_or bytes 1 0) 76) ClientError ServerError) (cond (eqb (get_or bytes 1 0) 79) Touched (cond (eqb (get_or bytes 0 0) 68) Deleted Version)))))))
+named bytes = cond (leb (get_or bytes 0 0) 57) Count (named_word bytes)
 
 named_text : (first : Word) → named (word_text first) ≡ first
 named_text End = refl
@@ -103,16 +108,69 @@ named_text Exists = refl
 named_text NotFound = refl
 named_text Deleted = refl
 named_text Touched = refl
+named_text Count = refl
 named_text Error = refl
 named_text ClientError = refl
 named_text ServerError = refl
 named_text Version = refl
 
+-- what a line begins with
+first_starts : (t : Tail) (bytes : List ℕ) (head : Head) → is_clean bytes ≡ true → Starts (first_form t bytes head)
+first_starts tails.Nothing bytes head clean = word_starts bytes clean
+first_starts tails.Text bytes head clean = word_starts bytes clean
+first_starts tails.Value bytes head clean = word_starts bytes clean
+first_starts tails.Count bytes head clean = number_starts 18446744073709551615 head.count
+
+first_visible : (t : Tail) (bytes : List ℕ) (head : Head) → is_clean bytes ≡ true → Visible (first_form t bytes head)
+first_visible tails.Nothing bytes head clean = word_visible bytes clean
+first_visible tails.Text bytes head clean = word_visible bytes clean
+first_visible tails.Value bytes head clean = word_visible bytes clean
+first_visible tails.Count bytes head clean = number_visible 18446744073709551615 head.count
+
+first_next : (t : Tail) (bytes : List ℕ) (head : Head) (forms : List Form) (line : List ℕ) → Writes (first_form t bytes head ∷ forms) 0 line → Next (first_form t bytes head) 0 (Writes forms 1) line
+first_next tails.Nothing bytes head forms line w = w
+first_next tails.Text bytes head forms line w = w
+first_next tails.Value bytes head forms line w = w
+first_next tails.Count bytes head forms line w = w
+
+named_number : (n : ℕ) (written : List ℕ) → IsWritten (number 18446744073709551615 n) written → named written ≡ Count
+named_number n [] is = absurd (is.0 refl)
+named_number n (b ∷ more) is = let low : leb b 57 ≡ true = le-leb b 57 (omega (arith, is.1.1)) in ap (λ t. cond t Count (named_word (b ∷ more))) low
+
+named_first : (first : Word) (head : Head) (written : List ℕ) → IsWritten (first_form (tail_of first) (word_text first) head) written → named written ≡ first
+named_first End head written is = ap named is
+named_first Value head written is = ap named is
+named_first Stored head written is = ap named is
+named_first NotStored head written is = ap named is
+named_first Exists head written is = ap named is
+named_first NotFound head written is = ap named is
+named_first Deleted head written is = ap named is
+named_first Touched head written is = ap named is
+named_first Count head written is = named_number head.count written is
+named_first Error head written is = ap named is
+named_first ClientError head written is = ap named is
+named_first ServerError head written is = ap named is
+named_first Version head written is = ap named is
+
 pub first_one : (row other_row : Row) (key : List ℕ) (v w : Word) (h g : Head) (line : List ℕ) → IsLine row key v h line → IsLine other_row key w g line → v ≡ w
 first_one row other_row key v w h g line x y =
-    let same = next_one (word (word_text v)) (word (word_text w)) 0 0 (tail_forms (tail_of v) (has_cas row) key h) (tail_forms (tail_of w) (has_cas other_row) key g) line line (word_starts (word_text v) (word_clean v)) (word_starts (word_text w) (word_clean w)) (word_visible (word_text v) (word_clean v)) (word_visible (word_text w) (word_clean w)) refl x.writes y.writes in
-    let texts : word_text v ≡ word_text w = sym x.writes.is ∙ same.0 ∙ y.writes.is in
-    sym (named_text v) ∙ ap named texts ∙ named_text w
+    let f = first_form (tail_of v) (word_text v) h in
+    let k = first_form (tail_of w) (word_text w) g in
+    let fs = tail_forms (tail_of v) (has_cas row) key h in
+    let ks = tail_forms (tail_of w) (has_cas other_row) key g in
+    let a = first_next (tail_of v) (word_text v) h fs line x.writes in
+    let b = first_next (tail_of w) (word_text w) g ks line y.writes in
+    let same = next_one f k 0 0 fs ks line line (first_starts (tail_of v) (word_text v) h (word_clean v)) (first_starts (tail_of w) (word_text w) g (word_clean w)) (first_visible (tail_of v) (word_text v) h (word_clean v)) (first_visible (tail_of w) (word_text w) g (word_clean w)) refl a b in
+    sym (named_first v h a.written a.is) ∙ ap named same.0 ∙ named_first w g b.written b.is
+
+-- a line that is a number is one number
+pub count_one : (row other_row : Row) (key : List ℕ) (h g : Head) (line : List ℕ) → IsLine row key Count h line → IsLine other_row key Count g line → h.count ≡ g.count
+count_one row other_row key h g line x y =
+    let limit : ℕ = 18446744073709551615 in
+    let a = x.writes in
+    let b = y.writes in
+    let same = next_one (number limit h.count) (number limit g.count) 0 0 [] [] line line (number_starts limit h.count) (number_starts limit g.count) (number_visible limit h.count) (number_visible limit g.count) refl a b in
+    sym a.is.2 ∙ ap (decimal_from 0) same.0 ∙ b.is.2
 
 module _ (row : Row) (key : List ℕ) (clean : is_clean key ≡ true) (h g : Head) (line : List ℕ) where
   pub value_one : IsLine row key Value h line → IsLine row key Value g line → (h.flags ≡ g.flags) × (h.size ≡ g.size) × (has_cas row ≡ true → h.cas ≡ g.cas)

@@ -6,7 +6,7 @@ use Rattle.std.proofs.lemmas.List.{append-nil, get_or-map, get_or_append_left, g
 use Rattle.std.proofs.lemmas.List.Elements.{All-nil, All-map, All-weaker, All-contains_itself, All-push, All-append}
 use Rattle.mcv_base.specs.declared.operation.Op.TheVariants as ops
 use Rattle.mcv_reply.specs.declared.word.Word.{Word}
-use Rattle.mcv_reply.specs.declared.word.Word.TheVariants.{End, Value, Stored, NotStored, Exists, NotFound, Deleted, Touched, Error, ClientError, ServerError, Version}
+use Rattle.mcv_reply.specs.declared.word.Word.TheVariants.{End, Value, Stored, NotStored, Exists, NotFound, Deleted, Touched, Count, Error, ClientError, ServerError, Version}
 use Rattle.mcv_reply.specs.declared.word.Tail.{Tail}
 use Rattle.mcv_reply.specs.declared.word.Tail.TheVariants as tails
 use Rattle.mcv_reply.specs.declared.word.Row.{Row}
@@ -16,8 +16,8 @@ use Rattle.mcv_reply.specs.declared.candidate.Name.TheVariants.{First}
 use Rattle.mcv_reply.specs.declared.candidate.LinePart.TheVariants.{BeforeName}
 use Rattle.mcv_reply.specs.declared.candidate.Candidate.{Candidate}
 use Rattle.mcv_reply.specs.Word.{has_cas, tail_of, word_text, words}
-use Rattle.mcv_reply.specs.Line.{IsLine, tail_forms, cas_forms}
-use Rattle.mcv_reply.specs.Candidate.{Ends, IsKept, IsValid, Open, Reads, Says, fewest, is_clean, needed, new_candidate, zero_head}
+use Rattle.mcv_reply.specs.Line.{IsLine, Writes, cas_forms, first_form, tail_forms}
+use Rattle.mcv_reply.specs.Candidate.{Ends, Follows, IsKept, IsValid, IsValidAt, Open, Reads, Says, fewest, is_clean, needed, new_candidate, start_of, zero_head}
 
 -- at most seven first words
 pub few_words : (row : Row) → length (words row) ≤ 7
@@ -31,6 +31,8 @@ few_words (Reply ops.Prepend) = omega arith
 few_words (Reply ops.Cas) = omega arith
 few_words (Reply ops.Delete) = omega arith
 few_words (Reply ops.Touch) = omega arith
+few_words (Reply ops.Incr) = omega arith
+few_words (Reply ops.Decr) = omega arith
 few_words AfterValue = omega arith
 few_words Probe = omega arith
 
@@ -43,6 +45,7 @@ word_length Exists = omega arith
 word_length NotFound = omega arith
 word_length Deleted = omega arith
 word_length Touched = omega arith
+word_length Count = omega arith
 word_length Error = omega arith
 word_length ClientError = omega arith
 word_length ServerError = omega arith
@@ -56,17 +59,79 @@ tail_short : (t : Tail) (has : Bool) (key : List ℕ) → fewest (tail_forms t h
 tail_short tails.Nothing has key = omega arith
 tail_short tails.Text has key = omega arith
 tail_short tails.Value has key = omega (arith, cas_short has)
+tail_short tails.Count has key = omega arith
 
 pub needed_short : (first : Word) (has : Bool) (key : List ℕ) → length key ≤ 250 → needed first has key (BeforeName First) ≤ 2048
 needed_short first has key short = omega (arith, word_length first, tail_short (tail_of first) has key)
 
+-- a line begins with its word, or with its number
+start_on : (first : Word) (has : Bool) (key : List ℕ) (head : Head) (more : List ℕ) → Writes (first_form (tail_of first) (word_text first) head ∷ tail_forms (tail_of first) has key head) 0 more → Follows first has key zero_head (start_of (tail_of first)) head more
+start_on End has key head more w = w
+start_on Value has key head more w = w
+start_on Stored has key head more w = w
+start_on NotStored has key head more w = w
+start_on Exists has key head more w = w
+start_on NotFound has key head more w = w
+start_on Deleted has key head more w = w
+start_on Touched has key head more w = w
+start_on Count has key head more w = (tt, w)
+start_on Error has key head more w = w
+start_on ClientError has key head more w = w
+start_on ServerError has key head more w = w
+start_on Version has key head more w = w
+
+start_back : (first : Word) (has : Bool) (key : List ℕ) (head : Head) (more : List ℕ) → Follows first has key zero_head (start_of (tail_of first)) head more → Writes (first_form (tail_of first) (word_text first) head ∷ tail_forms (tail_of first) has key head) 0 more
+start_back End has key head more f = f
+start_back Value has key head more f = f
+start_back Stored has key head more f = f
+start_back NotStored has key head more f = f
+start_back Exists has key head more f = f
+start_back NotFound has key head more f = f
+start_back Deleted has key head more f = f
+start_back Touched has key head more f = f
+start_back Count has key head more f = f.1
+start_back Error has key head more f = f
+start_back ClientError has key head more f = f
+start_back ServerError has key head more f = f
+start_back Version has key head more f = f
+
+start_needs : (first : Word) (has : Bool) (key : List ℕ) → needed first has key (start_of (tail_of first)) ≡ needed first has key (BeforeName First)
+start_needs End has key = refl
+start_needs Value has key = refl
+start_needs Stored has key = refl
+start_needs NotStored has key = refl
+start_needs Exists has key = refl
+start_needs NotFound has key = refl
+start_needs Deleted has key = refl
+start_needs Touched has key = refl
+start_needs Count has key = refl
+start_needs Error has key = refl
+start_needs ClientError has key = refl
+start_needs ServerError has key = refl
+start_needs Version has key = refl
+
+start_valid : (first : Word) (has : Bool) → IsValidAt first has (start_of (tail_of first))
+start_valid End has = refl
+start_valid Value has = refl
+start_valid Stored has = refl
+start_valid NotStored has = refl
+start_valid Exists has = refl
+start_valid NotFound has = refl
+start_valid Deleted has = refl
+start_valid Touched has = refl
+start_valid Count has = refl
+start_valid Error has = refl
+start_valid ClientError has = refl
+start_valid ServerError has = refl
+start_valid Version has = refl
+
 -- lines of which nothing has come
 module _ (row : Row) (key : List ℕ) (short : length key ≤ 250) where
   new_to : (first : Word) (head : Head) (more : List ℕ) → IsLine row key first head more → Open (has_cas row) key (new_candidate (has_cas row) key first) head more
-  new_to first head more l = record { follows = l.writes; short = omega (arith, l.short, needed_short first (has_cas row) key short); no_end = l.no_end }
+  new_to first head more l = record { follows = start_on first (has_cas row) key head more l.writes; short = omega (arith, l.short, needed_short first (has_cas row) key short, start_needs first (has_cas row) key); no_end = l.no_end }
 
   new_back : (first : Word) → Contains (words row) first → (head : Head) (more : List ℕ) → Open (has_cas row) key (new_candidate (has_cas row) key first) head more → IsLine row key first head more
-  new_back first may head more o = record { may = may; writes = o.follows; no_end = o.no_end; short = omega (arith, o.short, needed_short first (has_cas row) key short) }
+  new_back first may head more o = record { may = may; writes = start_back first (has_cas row) key head more o.follows; no_end = o.no_end; short = omega (arith, o.short, needed_short first (has_cas row) key short, start_needs first (has_cas row) key) }
 
   pub new_kept : (items : List Candidate) → items ≡ map (new_candidate (has_cas row) key) (words row) → IsKept row key [] items
   new_kept items is = subst (λ (t : List Candidate). IsKept row key [] t) (sym is) record {
@@ -76,7 +141,7 @@ module _ (row : Row) (key : List ℕ) (short : length key ≤ 250) where
         (k, new_candidate (has_cas row) key first, omega (arith, l.may.1, length-map (words row) (new_candidate (has_cas row) key)), at, (refl, new_to first head more l));
     back = All-map (λ (c : Candidate). (head : Head) (more : List ℕ) → Open (has_cas row) key c head more → IsLine row key c.first head more) (new_candidate (has_cas row) key) (words row)
         (All-weaker (Contains (words row)) (λ (w : Word). (head : Head) (more : List ℕ) → Open (has_cas row) key (new_candidate (has_cas row) key w) head more → IsLine row key w head more) new_back (words row) (All-contains_itself (words row)));
-    valid = All-map (IsValid (has_cas row)) (new_candidate (has_cas row) key) (words row) (λ k d l. tt);
+    valid = All-map (IsValid (has_cas row)) (new_candidate (has_cas row) key) (words row) (λ k d l. start_valid (get_or (words row) k d) (has_cas row));
     no_end = All-nil (λ b. b ≢ 10);
   }
 

@@ -11,7 +11,7 @@ use Rattle.mcv_reply.specs.declared.candidate.Head.{Head}
 use Rattle.mcv_reply.specs.declared.candidate.Name.{Name}
 use Rattle.mcv_reply.specs.declared.candidate.Name.TheVariants.{First, Key}
 use Rattle.mcv_reply.specs.declared.candidate.Number.{Number}
-use Rattle.mcv_reply.specs.declared.candidate.Number.TheVariants.{Flags, Size, Cas}
+use Rattle.mcv_reply.specs.declared.candidate.Number.TheVariants.{Flags, Size, Cas, Count}
 use Rattle.mcv_reply.specs.declared.candidate.LinePart.{LinePart}
 use Rattle.mcv_reply.specs.declared.candidate.LinePart.TheVariants.{BeforeName, InName, BeforeNumber, InNumber, Blank, Return, Text}
 use Rattle.mcv_reply.specs.declared.candidate.Candidate.{Candidate}
@@ -77,6 +77,7 @@ plain_tail : (t : Tail) (has : Bool) (key : List ℕ) → is_clean key ≡ true 
 plain_tail tails.Nothing has key clean = tt
 plain_tail tails.Text has key clean = tt
 plain_tail tails.Value has key clean = (clean, (refl, (refl, plain_cas has)))
+plain_tail tails.Count has key clean = tt
 
 plain_name : (name : Name) (first : Word) (has : Bool) (key : List ℕ) → is_clean key ≡ true → IsPlain (behind_name name first has key zero_head)
 plain_name First first has key clean = plain_tail (tail_of first) has key clean
@@ -84,9 +85,10 @@ plain_name Key first has key clean = (refl, (refl, plain_cas has))
 
 -- the head that has been read, with this number and zeros behind it
 abbrev head_at : Number → Head → ℕ → Head
-head_at Flags read n = record { flags = n; size = 0; cas = 0 }
-head_at Size read n = record { flags = read.flags; size = n; cas = 0 }
-head_at Cas read n = record { flags = read.flags; size = read.size; cas = n }
+head_at Flags read n = record { flags = n; size = 0; cas = 0; count = 0 }
+head_at Size read n = record { flags = read.flags; size = n; cas = 0; count = 0 }
+head_at Cas read n = record { flags = read.flags; size = read.size; cas = n; count = 0 }
+head_at Count read n = record { flags = 0; size = 0; cas = 0; count = n }
 
 -- what may follow, and no more than must
 pub record Completes (first : Word) (has : Bool) (key : List ℕ) (read : Head) (part : LinePart) : Type 0 where
@@ -100,11 +102,13 @@ before_number : (first : Word) (has : Bool) (key : List ℕ) (read : Head) (n : 
 before_number first has key read Flags = let s = shortest (number 4294967295 0 ∷ size_forms has zero_head) 0 (refl, (refl, plain_cas has)) in record { head = head_at Flags read 0; more = s.more; follows = (tt, s.writes); len = s.len ∙ omega arith; no_end = s.no_end }
 before_number first has key read Size = let s = shortest (number 1048576 0 ∷ cas_forms has 0) 0 (refl, plain_cas has) in record { head = head_at Size read 0; more = s.more; follows = (refl, s.writes); len = s.len ∙ omega arith; no_end = s.no_end }
 before_number first has key read Cas = let s = shortest (number 18446744073709551615 0 ∷ []) 0 (refl, tt) in record { head = head_at Cas read 0; more = s.more; follows = ((refl, refl), s.writes); len = s.len ∙ omega arith; no_end = s.no_end }
+before_number first has key read Count = let s = shortest (number 18446744073709551615 0 ∷ []) 0 (refl, tt) in record { head = head_at Count read 0; more = s.more; follows = (tt, s.writes); len = s.len ∙ omega arith; no_end = s.no_end }
 
 in_number : (first : Word) (has : Bool) (key : List ℕ) (read : Head) (n : Number) (value : ℕ) → value ≤ limit_of n → Completes first has key read (InNumber n value)
 in_number first has key read Flags value l = let s = shortest (size_forms has zero_head) 1 (refl, plain_cas has) in record { head = head_at Flags read value; more = s.more; follows = (tt, record { digits = []; after = s.more; parts = refl; are = tt; value_is = refl; within = l; rest = s.writes }); len = s.len; no_end = s.no_end }
 in_number first has key read Size value l = let s = shortest (cas_forms has 0) 1 (plain_cas has) in record { head = head_at Size read value; more = s.more; follows = (refl, record { digits = []; after = s.more; parts = refl; are = tt; value_is = refl; within = l; rest = s.writes }); len = s.len; no_end = s.no_end }
 in_number first has key read Cas value l = record { head = head_at Cas read value; more = []; follows = ((refl, refl), record { digits = []; after = []; parts = refl; are = tt; value_is = refl; within = l; rest = tt }); len = refl; no_end = All-nil (λ b. b ≢ 10) }
+in_number first has key read Count value l = record { head = head_at Count read value; more = []; follows = (tt, record { digits = []; after = []; parts = refl; are = tt; value_is = refl; within = l; rest = tt }); len = refl; no_end = All-nil (λ b. b ≢ 10) }
 
 pub completes : (first : Word) (has : Bool) (key : List ℕ) (read : Head) (part : LinePart) → is_clean key ≡ true → IsValidAt first has part → Completes first has key read part
 completes first has key read (BeforeName name) clean valid =

@@ -17,7 +17,7 @@ use Rattle.mcv_reply.specs.declared.word.Row.TheVariants as rows
 use Rattle.mcv_reply.specs.declared.candidate.Head.{Head}
 use Rattle.mcv_reply.specs.Word.{answers, has_cas, tail_of, word_text}
 use Rattle.mcv_reply.specs.declared.line.Meaning.{Meaning}
-use Rattle.mcv_reply.specs.Line.{IsBlank, IsDigits, IsLine, Next, Writes, cas_forms, decimal_from, flags_forms, number, size_forms, tail_forms, word}
+use Rattle.mcv_reply.specs.Line.{IsBlank, IsDigits, IsLine, Next, Writes, cas_forms, decimal_from, first_form, flags_forms, number, size_forms, tail_forms, word}
 use Rattle.mcv_reply.specs.PlainLine.{IsBareWord, SpacedNumber, StartsLine}
 use Rattle.mcv_reply.proofs.Steps.{end_cut, end_taken, end_within}
 
@@ -90,6 +90,8 @@ value_may ops.Prepend is = absurd (cc)
 value_may ops.Cas is = absurd (cc)
 value_may ops.Delete is = absurd (cc)
 value_may ops.Touch is = absurd (cc)
+value_may ops.Incr is = absurd (cc)
+value_may ops.Decr is = absurd (cc)
 
 pub value_line : (op : Op) (key line : List ℕ) (head : Head) (cas : Bool) → is_reading op ≡ true → cas ≡ has_cas (rows.Reply op) → All (λ b. b ≢ 10) line → length line ≤ 2048
     → Writes (word (codes "VALUE") ∷ (word key ∷ flags_forms cas head)) 0 line → IsLine (rows.Reply op) key Value head line
@@ -100,10 +102,11 @@ value_line op key line head cas reads cas_is no_end short writes = record {
   short = short;
 }
 
-bare_writes : (tail : Tail) (text line key : List ℕ) (has : Bool) (head : Head) → tail ≡ tails.Nothing → line ≡ text ++ 13 ∷ [] → Writes (word text ∷ tail_forms tail has key head) 0 line
+bare_writes : (tail : Tail) (text line key : List ℕ) (has : Bool) (head : Head) → tail ≡ tails.Nothing → line ≡ text ++ 13 ∷ [] → Writes (first_form tail text head ∷ tail_forms tail has key head) 0 line
 bare_writes tails.Nothing text line key has head is e = record { gap = 0; written = text; after = 13 ∷ []; parts = e; enough = omega arith; is = refl; rest = inr (refl, refl) }
 bare_writes tails.Text text line key has head is e = absurd (cc)
 bare_writes tails.Value text line key has head is e = absurd (cc)
+bare_writes tails.Count text line key has head is e = absurd (cc)
 
 pub bare_line : (op : Op) (key line : List ℕ) (first : Word) (head : Head) → All (λ b. b ≢ 10) line → length line ≤ 2048 → IsBareWord op first line → IsLine (rows.Reply op) key first head line
 bare_line op key line first head no_end short bare = record {
@@ -124,7 +127,7 @@ line_starts op key text piece end said none found is = record {
 }
 
 pub numbers_read : (cas : Bool) (flags size n : ℕ) (bytes sized left : List ℕ) → SpacedNumber 4294967295 flags bytes sized → SpacedNumber 1048576 size sized left → Writes (cas_forms cas n) 1 left
-    → Writes (flags_forms cas (record { flags = flags; size = size; cas = n })) 1 bytes
+    → Writes (flags_forms cas (record { flags = flags; size = size; cas = n; count = 0 })) 1 bytes
 numbers_read cas flags size n bytes sized left s t last =
-    number_next 4294967295 flags (Writes (size_forms cas (record { flags = flags; size = size; cas = n })) 1) bytes sized s
+    number_next 4294967295 flags (Writes (size_forms cas (record { flags = flags; size = size; cas = n; count = 0 })) 1) bytes sized s
     (number_next 1048576 size (Writes (cas_forms cas n) 1) sized left t last)

@@ -6,12 +6,13 @@ use Rattle.std.proofs.lemmas.List.Sums.{AllPass-from_list_all}
 use Rattle.mcv_base.specs.declared.operation.Op.{Op}
 use Rattle.mcv_base.specs.declared.operation.Op.TheVariants as ops
 use Rattle.mcv_base.specs.declared.reply.Reply.{Reply}
-use Rattle.mcv_base.specs.Operation.{is_reading, is_same_op}
-use Rattle.mcv_base.specs.Reply.{ReplyValue, hit, miss, stored, not_stored, exists, not_found, deleted, touched, may_answer, reply_value}
+use Rattle.mcv_base.specs.Operation.{is_adjusting, is_reading, is_same_op}
+use Rattle.mcv_base.specs.Reply.{ReplyValue, hit, miss, stored, not_stored, exists, not_found, deleted, touched, number, may_answer, reply_value}
 use Rattle.mcv_reply.specs.declared.fault.ReplyFault.{ReplyFault}
 use Rattle.mcv_reply.specs.declared.fault.ReplyFault.TheVariants as faults
 use Rattle.mcv_reply.specs.declared.word.Word.{Word}
-use Rattle.mcv_reply.specs.declared.word.Word.TheVariants.{End, Value, Stored, NotStored, Exists, NotFound, Deleted, Touched, Error, ClientError, ServerError, Version}
+use Rattle.mcv_reply.specs.declared.candidate.Head.{Head}
+use Rattle.mcv_reply.specs.declared.word.Word.TheVariants.{End, Value, Stored, NotStored, Exists, NotFound, Deleted, Touched, Count, Error, ClientError, ServerError, Version}
 use Rattle.mcv_reply.specs.Word.{answers}
 use Rattle.mcv_reply.specs.Reply.{Spells, alone, with_value, cas_said, said_alone}
 use Rattle.mcv_reply.specs.Reader.{FeedsAt, ReaderState, Fed, Answered, Closed}
@@ -26,6 +27,7 @@ fits op Exists = may_answer op exists
 fits op NotFound = may_answer op not_found
 fits op Deleted = may_answer op deleted
 fits op Touched = may_answer op touched
+fits op Count = is_adjusting op
 fits op Error = true
 fits op ClientError = true
 fits op ServerError = true
@@ -42,6 +44,8 @@ all_fit ops.Prepend = refl
 all_fit ops.Cas = refl
 all_fit ops.Delete = refl
 all_fit ops.Touch = refl
+all_fit ops.Incr = refl
+all_fit ops.Decr = refl
 
 fit : (op : Op) (first : Word) → Contains (answers op) first → fits op first ≡ true
 fit op first = All-contains (λ w. fits op w ≡ true) (answers op) first (AllPass-from_list_all (fits op) (answers op) (all_fit op))
@@ -49,19 +53,20 @@ fit op first = All-contains (λ w. fits op w ≡ true) (answers op) first (AllPa
 said : (op : Op) (x reply : ReplyValue) → may_answer op x ≡ true → Some x ≡ Some reply → may_answer op reply ≡ true
 said op x reply may is = let same : x ≡ reply = cc in ap (may_answer op) (sym same) ∙ may
 
-alone_may : (op : Op) (first : Word) (line : List ℕ) (reply : ReplyValue) → fits op first ≡ true → said_alone first line ≡ Some reply → may_answer op reply ≡ true
-alone_may op End line reply fit is = said op miss reply fit is
-alone_may op Value line reply fit is = absurd (cc)
-alone_may op Stored line reply fit is = said op stored reply fit is
-alone_may op NotStored line reply fit is = said op not_stored reply fit is
-alone_may op Exists line reply fit is = said op exists reply fit is
-alone_may op NotFound line reply fit is = said op not_found reply fit is
-alone_may op Deleted line reply fit is = said op deleted reply fit is
-alone_may op Touched line reply fit is = said op touched reply fit is
-alone_may op Error line reply fit is = said op _ reply refl is
-alone_may op ClientError line reply fit is = said op _ reply refl is
-alone_may op ServerError line reply fit is = said op _ reply refl is
-alone_may op Version line reply fit is = absurd (cc)
+alone_may : (op : Op) (first : Word) (head : Head) (line : List ℕ) (reply : ReplyValue) → fits op first ≡ true → said_alone first head line ≡ Some reply → may_answer op reply ≡ true
+alone_may op End head line reply fit is = said op miss reply fit is
+alone_may op Value head line reply fit is = absurd (cc)
+alone_may op Stored head line reply fit is = said op stored reply fit is
+alone_may op NotStored head line reply fit is = said op not_stored reply fit is
+alone_may op Exists head line reply fit is = said op exists reply fit is
+alone_may op NotFound head line reply fit is = said op not_found reply fit is
+alone_may op Deleted head line reply fit is = said op deleted reply fit is
+alone_may op Touched head line reply fit is = said op touched reply fit is
+alone_may op Count head line reply fit is = said op (number head.count) reply fit is
+alone_may op Error head line reply fit is = said op _ reply refl is
+alone_may op ClientError head line reply fit is = said op _ reply refl is
+alone_may op ServerError head line reply fit is = said op _ reply refl is
+alone_may op Version head line reply fit is = absurd (cc)
 
 hit_may : (op : Op) (flags cas : ℕ) (value : List ℕ) → is_reading op ≡ true → may_answer op (hit flags (cas_said (is_same_op op ops.Gets) cas) value) ≡ true
 hit_may ops.Get flags cas value reads = refl
@@ -74,9 +79,11 @@ hit_may ops.Prepend flags cas value reads = absurd (cc)
 hit_may ops.Cas flags cas value reads = absurd (cc)
 hit_may ops.Delete flags cas value reads = absurd (cc)
 hit_may ops.Touch flags cas value reads = absurd (cc)
+hit_may ops.Incr flags cas value reads = absurd (cc)
+hit_may ops.Decr flags cas value reads = absurd (cc)
 
 pub spelled_may_answer : (op : Op) (key bytes : List ℕ) (reply : ReplyValue) → Spells op key bytes reply → may_answer op reply ≡ true
-spelled_may_answer op key bytes reply (alone s) = alone_may op s.first s.line reply (fit op s.first s.line_is.may) s.says
+spelled_may_answer op key bytes reply (alone s) = alone_may op s.first s.head s.line reply (fit op s.first s.line_is.may) s.says
 spelled_may_answer op key bytes reply (with_value s) = ap (may_answer op) s.says ∙ hit_may op s.head.flags s.head.cas s.value (fit op Value s.line_is.may)
 
 pub given_may_answer : (op : Op) (key : List ℕ) (state : ReaderState) (piece : List ℕ) (reply : Reply) (new : ReaderState) → FeedsAt op key state piece (Ok (Some reply)) new → may_answer op (reply_value reply) ≡ true

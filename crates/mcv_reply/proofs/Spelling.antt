@@ -4,16 +4,16 @@ use Rattle.std.specs.List.{All}
 use Rattle.std.proofs.lemmas.List.{take_at, drop_at}
 use Rattle.std.proofs.lemmas.List.Elements.{All-head, All-tail}
 use Rattle.mcv_base.specs.declared.operation.Op.{Op}
-use Rattle.mcv_base.specs.Reply.{ReplyValue, hit}
+use Rattle.mcv_base.specs.Reply.{ReplyValue, hit, number}
 use Rattle.mcv_reply.specs.declared.word.Word.{Word}
-use Rattle.mcv_reply.specs.declared.word.Word.TheVariants.{End, Value}
+use Rattle.mcv_reply.specs.declared.word.Word.TheVariants.{End, Value, Stored, NotStored, Exists, NotFound, Deleted, Touched, Count, Error, ClientError, ServerError, Version}
 use Rattle.mcv_reply.specs.declared.word.Row.TheVariants as rows
 use Rattle.mcv_reply.specs.declared.candidate.Head.{Head}
 use Rattle.mcv_reply.specs.Word.{has_cas}
 use Rattle.mcv_reply.specs.Line.{IsLine}
 use Rattle.mcv_reply.specs.Candidate.{is_clean}
 use Rattle.mcv_reply.specs.Reply.{Spells, alone, with_value, cas_said, said_alone}
-use Rattle.mcv_reply.proofs.LineHasOneReading.{first_one, value_one}
+use Rattle.mcv_reply.proofs.LineHasOneReading.{count_one, first_one, value_one}
 
 pub line_one : (l m x y : List ℕ) → All (λ b. b ≢ 10) l → All (λ b. b ≢ 10) m → l ++ 10 ∷ x ≡ m ++ 10 ∷ y → (l ≡ m) × (x ≡ y)
 line_one [] [] x y p q e = (refl, cc)
@@ -48,6 +48,22 @@ same_cas_said : (has : Bool) (a b : ℕ) → (has ≡ true → a ≡ b) → cas_
 same_cas_said true a b e = ap Some (e refl)
 same_cas_said false a b e = refl
 
+-- a line says one thing
+said_one : (op : Op) (key : List ℕ) (first : Word) (h g : Head) (line : List ℕ) → IsLine (rows.Reply op) key first h line → IsLine (rows.Reply op) key first g line → said_alone first h line ≡ said_alone first g line
+said_one op key End h g line x y = refl
+said_one op key Value h g line x y = refl
+said_one op key Stored h g line x y = refl
+said_one op key NotStored h g line x y = refl
+said_one op key Exists h g line x y = refl
+said_one op key NotFound h g line x y = refl
+said_one op key Deleted h g line x y = refl
+said_one op key Touched h g line x y = refl
+said_one op key Count h g line x y = ap (λ n. Some (number n)) (count_one (rows.Reply op) (rows.Reply op) key h g line x y)
+said_one op key Error h g line x y = refl
+said_one op key ClientError h g line x y = refl
+said_one op key ServerError h g line x y = refl
+said_one op key Version h g line x y = refl
+
 -- behind the line of a value
 pub record HitRest (op : Op) (key : List ℕ) (head : Head) (x : List ℕ) (reply : ReplyValue) : Type 0 where
   pub value : List ℕ
@@ -62,8 +78,8 @@ module _ (op : Op) (key : List ℕ) (clean : is_clean key ≡ true) where
   pub value_goes : (head : Head) (line x : List ℕ) (reply : ReplyValue) → IsLine (rows.Reply op) key Value head line → Spells op key (line ++ 10 ∷ x) reply → HitRest op key head x reply
   value_goes head line x reply is (alone s) =
       let one = line_one line s.line x [] is.no_end s.line_is.no_end s.parts in
-      let first : s.first ≡ Value = first_one (rows.Reply op) (rows.Reply op) key s.first Value s.other head line (subst (λ (t : List ℕ). IsLine (rows.Reply op) key s.first s.other t) (sym one.0) s.line_is) is in
-      absurd (none_some (said_alone s.first s.line) reply (ap (λ (t : Word). said_alone t s.line) first) s.says)
+      let first : s.first ≡ Value = first_one (rows.Reply op) (rows.Reply op) key s.first Value s.head head line (subst (λ (t : List ℕ). IsLine (rows.Reply op) key s.first s.head t) (sym one.0) s.line_is) is in
+      absurd (none_some (said_alone s.first s.head s.line) reply (ap (λ (t : Word). said_alone t s.head s.line) first) s.says)
   value_goes head line x reply is (with_value s) =
       let one = line_one line s.line x (s.value ++ 13 ∷ 10 ∷ (s.last ++ 10 ∷ [])) is.no_end s.line_is.no_end s.parts in
       let same = value_one (rows.Reply op) key clean s.head head line (subst (λ (t : List ℕ). IsLine (rows.Reply op) key Value s.head t) (sym one.0) s.line_is) is in
@@ -81,22 +97,24 @@ module _ (op : Op) (key : List ℕ) (clean : is_clean key ≡ true) where
   value_back head line x reply is r = with_value (record { head = head; line = line; value = r.value; last = r.last; line_is = is; size = r.size; other = r.other; last_is = r.last_is; parts = ap (λ t. line ++ 10 ∷ t) r.parts; says = r.says })
 
   -- behind a line that is a reply
-  pub alone_goes : (first : Word) (head : Head) (line x : List ℕ) (said reply : ReplyValue) → IsLine (rows.Reply op) key first head line → said_alone first line ≡ Some said → Spells op key (line ++ 10 ∷ x) reply → (x ≡ []) × (said ≡ reply)
+  pub alone_goes : (first : Word) (head : Head) (line x : List ℕ) (said reply : ReplyValue) → IsLine (rows.Reply op) key first head line → said_alone first head line ≡ Some said → Spells op key (line ++ 10 ∷ x) reply → (x ≡ []) × (said ≡ reply)
   alone_goes first head line x said reply is says (alone s) =
       let one = line_one line s.line x [] is.no_end s.line_is.no_end s.parts in
-      let same : s.first ≡ first = first_one (rows.Reply op) (rows.Reply op) key s.first first s.other head line (subst (λ (t : List ℕ). IsLine (rows.Reply op) key s.first s.other t) (sym one.0) s.line_is) is in
-      let both : Some said ≡ Some reply = sym says ∙ ap (λ (t : List ℕ). said_alone first t) one.0 ∙ ap (λ (t : Word). said_alone t s.line) (sym same) ∙ s.says in
+      let there : IsLine (rows.Reply op) key s.first s.head line = subst (λ (t : List ℕ). IsLine (rows.Reply op) key s.first s.head t) (sym one.0) s.line_is in
+      let same : s.first ≡ first = first_one (rows.Reply op) (rows.Reply op) key s.first first s.head head line there is in
+      let alike = said_one op key first head s.head line is (subst (λ (t : Word). IsLine (rows.Reply op) key t s.head line) same there) in
+      let both : Some said ≡ Some reply = sym says ∙ alike ∙ ap (λ (t : List ℕ). said_alone first s.head t) one.0 ∙ ap (λ (t : Word). said_alone t s.head s.line) (sym same) ∙ s.says in
       (one.1, cc)
   alone_goes first head line x said reply is says (with_value s) =
       let one = line_one line s.line x (s.value ++ 13 ∷ 10 ∷ (s.last ++ 10 ∷ [])) is.no_end s.line_is.no_end s.parts in
       let same : Value ≡ first = first_one (rows.Reply op) (rows.Reply op) key Value first s.head head line (subst (λ (t : List ℕ). IsLine (rows.Reply op) key Value s.head t) (sym one.0) s.line_is) is in
-      absurd (none_some (said_alone first line) said (ap (λ (t : Word). said_alone t line) (sym same)) says)
+      absurd (none_some (said_alone first head line) said (ap (λ (t : Word). said_alone t head line) (sym same)) says)
 
   -- a reply goes on with nothing, and is one
   pub replies_one : (bytes more : List ℕ) (reply other : ReplyValue) → Spells op key bytes reply → Spells op key (bytes ++ more) other → (more ≡ []) × (reply ≡ other)
   replies_one bytes more reply other (alone s) t =
       let whole : bytes ++ more ≡ s.line ++ 10 ∷ more = ap (λ b. b ++ more) s.parts ∙ append_assoc s.line (10 ∷ []) more in
-      alone_goes s.first s.other s.line more reply other s.line_is s.says (subst (λ (b : List ℕ). Spells op key b other) whole t)
+      alone_goes s.first s.head s.line more reply other s.line_is s.says (subst (λ (b : List ℕ). Spells op key b other) whole t)
   replies_one bytes more reply other (with_value s) t =
       let whole : bytes ++ more ≡ s.line ++ 10 ∷ ((s.value ++ 13 ∷ 10 ∷ (s.last ++ 10 ∷ [])) ++ more) = ap (λ b. b ++ more) s.parts ∙ append_assoc s.line (10 ∷ (s.value ++ 13 ∷ 10 ∷ (s.last ++ 10 ∷ []))) more in
       let r = value_goes s.head s.line ((s.value ++ 13 ∷ 10 ∷ (s.last ++ 10 ∷ [])) ++ more) other s.line_is (subst (λ (b : List ℕ). Spells op key b other) whole t) in

@@ -9,7 +9,7 @@ use Rattle.mcv_base.specs.declared.operation.Op.{Op}
 use Rattle.mcv_base.specs.declared.operation.Op.TheVariants as ops
 use Rattle.mcv_base.specs.Reply.{ReplyValue, hit}
 use Rattle.mcv_reply.specs.declared.word.Word.{Word}
-use Rattle.mcv_reply.specs.declared.word.Word.TheVariants.{End, Value, Stored, NotStored, Exists, NotFound, Deleted, Touched, Error, ClientError, ServerError, Version}
+use Rattle.mcv_reply.specs.declared.word.Word.TheVariants.{End, Value, Stored, NotStored, Exists, NotFound, Deleted, Touched, Count, Error, ClientError, ServerError, Version}
 use Rattle.mcv_reply.specs.declared.word.Row.{Row}
 use Rattle.mcv_reply.specs.declared.word.Row.TheVariants as rows
 use Rattle.mcv_reply.specs.declared.candidate.Head.{Head}
@@ -34,7 +34,7 @@ module _ (op : Op) (key : List ℕ) where
   pub no_line_begins : (bytes : List ℕ) → All (λ b. b ≢ 10) bytes → IsNoLine (rows.Reply op) key bytes → BeginsNone op key bytes
   no_line_begins bytes clean none more reply (alone s) =
       let f = front_of_line bytes more s.line [] clean s.parts in
-      none s.first s.other f.0 (subst (λ (t : List ℕ). IsLine (rows.Reply op) key s.first s.other t) f.1 s.line_is)
+      none s.first s.head f.0 (subst (λ (t : List ℕ). IsLine (rows.Reply op) key s.first s.head t) f.1 s.line_is)
   no_line_begins bytes clean none more reply (with_value s) =
       let f = front_of_line bytes more s.line (s.value ++ 13 ∷ 10 ∷ (s.last ++ 10 ∷ [])) clean s.parts in
       none Value s.head f.0 (subst (λ (t : List ℕ). IsLine (rows.Reply op) key Value s.head t) f.1 s.line_is)
@@ -43,13 +43,13 @@ module _ (op : Op) (key : List ℕ) where
   pub ended_wrong : (line : List ℕ) → All (λ b. b ≢ 10) line → ((first : Word) (head : Head) → IsLine (rows.Reply op) key first head line → ⊥) → (rest : List ℕ) → BeginsNone op key (line ++ 10 ∷ rest)
   ended_wrong line clean none rest more reply (alone s) =
       let one = line_one line s.line (rest ++ more) [] clean s.line_is.no_end (sym (append_assoc line (10 ∷ rest) more) ∙ s.parts) in
-      none s.first s.other (subst (λ (t : List ℕ). IsLine (rows.Reply op) key s.first s.other t) (sym one.0) s.line_is)
+      none s.first s.head (subst (λ (t : List ℕ). IsLine (rows.Reply op) key s.first s.head t) (sym one.0) s.line_is)
   ended_wrong line clean none rest more reply (with_value s) =
       let one = line_one line s.line (rest ++ more) (s.value ++ 13 ∷ 10 ∷ (s.last ++ 10 ∷ [])) clean s.line_is.no_end (sym (append_assoc line (10 ∷ rest) more) ∙ s.parts) in
       none Value s.head (subst (λ (t : List ℕ). IsLine (rows.Reply op) key Value s.head t) (sym one.0) s.line_is)
 
-  pub ended_right : (first : Word) (head : Head) (line : List ℕ) (reply : ReplyValue) → IsLine (rows.Reply op) key first head line → said_alone first line ≡ Some reply → Spells op key (line ++ 10 ∷ []) reply
-  ended_right first head line reply is says = alone (record { first = first; line = line; other = head; line_is = is; parts = refl; says = says })
+  pub ended_right : (first : Word) (head : Head) (line : List ℕ) (reply : ReplyValue) → IsLine (rows.Reply op) key first head line → said_alone first head line ≡ Some reply → Spells op key (line ++ 10 ∷ []) reply
+  ended_right first head line reply is says = alone (record { first = first; line = line; head = head; line_is = is; parts = refl; says = says })
 
 -- VERSION answers no leg
 is_reply_word : Word → Bool
@@ -62,6 +62,7 @@ is_reply_word Exists = true
 is_reply_word NotFound = true
 is_reply_word Deleted = true
 is_reply_word Touched = true
+is_reply_word Count = true
 is_reply_word Error = true
 is_reply_word ClientError = true
 is_reply_word ServerError = true
@@ -78,6 +79,8 @@ reply_words ops.Prepend = refl
 reply_words ops.Cas = refl
 reply_words ops.Delete = refl
 reply_words ops.Touch = refl
+reply_words ops.Incr = refl
+reply_words ops.Decr = refl
 
 version_not : (w : Word) → w ≡ Version → is_reply_word w ≡ true → ⊥
 unfolding is_reply_word
@@ -186,7 +189,7 @@ module _ (op : Op) (key : List ℕ) (clean : is_clean key ≡ true) where
         }),
       )
 
-  alone_completes : (first : Word) (head : Head) (line : List ℕ) (reply : ReplyValue) → IsLine (rows.Reply op) key first head line → said_alone first line ≡ Some reply → (rest : List ℕ) × (r : ReplyValue) × Spells op key (line ++ 10 ∷ rest) r
+  alone_completes : (first : Word) (head : Head) (line : List ℕ) (reply : ReplyValue) → IsLine (rows.Reply op) key first head line → said_alone first head line ≡ Some reply → (rest : List ℕ) × (r : ReplyValue) × Spells op key (line ++ 10 ∷ rest) r
   alone_completes first head line reply is says = ([], reply, ended_right op key first head line reply is says)
 
   line_completes : (first : Word) (head : Head) (line : List ℕ) → IsLine (rows.Reply op) key first head line → (rest : List ℕ) × (reply : ReplyValue) × Spells op key (line ++ 10 ∷ rest) reply
@@ -199,6 +202,7 @@ module _ (op : Op) (key : List ℕ) (clean : is_clean key ≡ true) where
   line_completes NotFound head line is = alone_completes NotFound head line _ is refl
   line_completes Deleted head line is = alone_completes Deleted head line _ is refl
   line_completes Touched head line is = alone_completes Touched head line _ is refl
+  line_completes Count head line is = alone_completes Count head line _ is refl
   line_completes Error head line is = alone_completes Error head line _ is refl
   line_completes ClientError head line is = alone_completes ClientError head line _ is refl
   line_completes ServerError head line is = alone_completes ServerError head line _ is refl
@@ -253,19 +257,20 @@ module _ (op : Op) (key : List ℕ) (clean : is_clean key ≡ true) where
       )
 
 -- a line that is no reply alone is that of a value, or answers a probe
-unsaid : (first : Word) (line : List ℕ) → said_alone first line ≡ None → (first ≡ Value) ⊎ (first ≡ Version)
-unsaid Value line e = inl refl
-unsaid Version line e = inr refl
-unsaid End line e = absurd (cc)
-unsaid Stored line e = absurd (cc)
-unsaid NotStored line e = absurd (cc)
-unsaid Exists line e = absurd (cc)
-unsaid NotFound line e = absurd (cc)
-unsaid Deleted line e = absurd (cc)
-unsaid Touched line e = absurd (cc)
-unsaid Error line e = absurd (cc)
-unsaid ClientError line e = absurd (cc)
-unsaid ServerError line e = absurd (cc)
+unsaid : (first : Word) (head : Head) (line : List ℕ) → said_alone first head line ≡ None → (first ≡ Value) ⊎ (first ≡ Version)
+unsaid Value head line e = inl refl
+unsaid Version head line e = inr refl
+unsaid End head line e = absurd (cc)
+unsaid Stored head line e = absurd (cc)
+unsaid NotStored head line e = absurd (cc)
+unsaid Exists head line e = absurd (cc)
+unsaid NotFound head line e = absurd (cc)
+unsaid Deleted head line e = absurd (cc)
+unsaid Touched head line e = absurd (cc)
+unsaid Count head line e = absurd (cc)
+unsaid Error head line e = absurd (cc)
+unsaid ClientError head line e = absurd (cc)
+unsaid ServerError head line e = absurd (cc)
 
-pub always_said : (op : Op) (key : List ℕ) (first : Word) (head : Head) (line : List ℕ) → IsLine (rows.Reply op) key first head line → (first ≡ Value → ⊥) → said_alone first line ≡ None → ⊥
-always_said op key first head line is not_value e = elim (unsaid first line e) [ inl v ↦ not_value v | inr v ↦ no_version op key first head line is v ]
+pub always_said : (op : Op) (key : List ℕ) (first : Word) (head : Head) (line : List ℕ) → IsLine (rows.Reply op) key first head line → (first ≡ Value → ⊥) → said_alone first head line ≡ None → ⊥
+always_said op key first head line is not_value e = elim (unsaid first head line e) [ inl v ↦ not_value v | inr v ↦ no_version op key first head line is v ]

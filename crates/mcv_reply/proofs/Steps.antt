@@ -72,6 +72,8 @@ error_may ops.Prepend = (2, omega arith, refl)
 error_may ops.Cas = (4, omega arith, refl)
 error_may ops.Delete = (2, omega arith, refl)
 error_may ops.Touch = (2, omega arith, refl)
+error_may ops.Incr = (2, omega arith, refl)
+error_may ops.Decr = (2, omega arith, refl)
 
 pub first_some : (op : Op) (key : List ℕ) (candidates : List Candidate) → IsKept (rows.Reply op) key [] candidates → 0 < length candidates
 first_some op key candidates kept = kept_some (rows.Reply op) key candidates Error zero_head (codes "ERROR") kept (record {

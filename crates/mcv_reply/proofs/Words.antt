@@ -4,7 +4,7 @@ use Rattle.std.specs.List.{list_all}
 use Rattle.std.proofs.lemmas.Bool.{and_parts, ltb-true, leb-true, lt-ltb, and_from}
 use Rattle.mcv_base.specs.Key.{is_key_byte, is_key_word}
 use Rattle.mcv_reply.specs.declared.word.Word.{Word}
-use Rattle.mcv_reply.specs.declared.word.Word.TheVariants.{End, Value, Stored, NotStored, Exists, NotFound, Deleted, Touched, Error, ClientError, ServerError, Version}
+use Rattle.mcv_reply.specs.declared.word.Word.TheVariants.{End, Value, Stored, NotStored, Exists, NotFound, Deleted, Touched, Count, Error, ClientError, ServerError, Version}
 use Rattle.mcv_reply.specs.declared.candidate.Name.{Name}
 use Rattle.mcv_reply.specs.declared.candidate.Name.TheVariants.{First, Key}
 use Rattle.mcv_reply.specs.Word.{word_text}
@@ -21,6 +21,7 @@ word_clean Exists = refl
 word_clean NotFound = refl
 word_clean Deleted = refl
 word_clean Touched = refl
+word_clean Count = refl
 word_clean Error = refl
 word_clean ClientError = refl
 word_clean ServerError = refl

@@ -3,7 +3,7 @@ use Rattle.std.proofs.Common.{◌≡◌, ◌≢◌, ℕ, suc, zero, ◌+◌, ◌
 use Rattle.mcv_reply.specs.Line.{Form, word, number, text, Next, Writes, IsWritten, IsDigits, decimal_from, spaces}
 use Rattle.mcv_reply.specs.Candidate.{Goes, Digits, limit_of}
 use Rattle.mcv_reply.specs.declared.candidate.Number.{Number}
-use Rattle.mcv_reply.specs.declared.candidate.Number.TheVariants.{Flags, Size, Cas}
+use Rattle.mcv_reply.specs.declared.candidate.Number.TheVariants.{Flags, Size, Cas, Count}
 
 -- what is written for the form begins with more than a space
 abbrev pub Starts : Form → Type 0
@@ -140,6 +140,7 @@ pub digit_limit : (n : Number) (value : ℕ) → value ≤ 9 → value ≤ limit
 digit_limit Flags value l = omega arith
 digit_limit Size value l = omega arith
 digit_limit Cas value l = omega arith
+digit_limit Count value l = omega arith
 
 -- no digit comes behind what is written
 pub digit_never : (forms : List Form) (b : ℕ) (more : List ℕ) → 48 ≤ b → b ≤ 57 → Writes forms 1 (b ∷ more) → ⊥

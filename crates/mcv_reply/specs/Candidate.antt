@@ -10,7 +10,7 @@ use Rattle.mcv_reply.specs.declared.candidate.Head.{Head}
 use Rattle.mcv_reply.specs.declared.candidate.Name.{Name}
 use Rattle.mcv_reply.specs.declared.candidate.Name.TheVariants.{First, Key}
 use Rattle.mcv_reply.specs.declared.candidate.Number.{Number}
-use Rattle.mcv_reply.specs.declared.candidate.Number.TheVariants.{Flags, Size, Cas}
+use Rattle.mcv_reply.specs.declared.candidate.Number.TheVariants.{Flags, Size, Cas, Count}
 use Rattle.mcv_reply.specs.declared.candidate.LinePart.{LinePart}
 use Rattle.mcv_reply.specs.declared.candidate.LinePart.TheVariants.{BeforeName, InName, BeforeNumber, InNumber, Blank, Return, Text}
 use Rattle.mcv_reply.specs.declared.candidate.Candidate.{Candidate}
@@ -34,22 +34,26 @@ abbrev pub behind_number : Number → Bool → Head → List Form
 behind_number Flags has head = size_forms has head
 behind_number Size has head = cas_forms has head.cas
 behind_number Cas has head = []
+behind_number Count has head = []
 
 abbrev pub limit_of : Number → ℕ
 limit_of Flags = 4294967295
 limit_of Size = 1048576
 limit_of Cas = 18446744073709551615
+limit_of Count = 18446744073709551615
 
 abbrev pub number_in : Number → Head → ℕ
 number_in Flags head = head.flags
 number_in Size head = head.size
 number_in Cas head = head.cas
+number_in Count head = head.count
 
 -- the numbers before this one have been read
 abbrev pub SoFar : Number → Head → Head → Type 0
 SoFar Flags read head = Unit {0}
 SoFar Size read head = head.flags ≡ read.flags
 SoFar Cas read head = (head.flags ≡ read.flags) × (head.size ≡ read.size)
+SoFar Count read head = Unit {0}
 
 abbrev pub SameCas : Bool → Head → Head → Type 0
 SameCas true read head = head.cas ≡ read.cas
@@ -60,6 +64,7 @@ abbrev pub AllRead : Tail → Bool → Head → Head → Type 0
 AllRead tails.Nothing has read head = Unit {0}
 AllRead tails.Text has read head = Unit {0}
 AllRead tails.Value has read head = (head.flags ≡ read.flags) × (head.size ≡ read.size) × SameCas has read head
+AllRead tails.Count has read head = head.count ≡ read.count
 
 -- the rest of a word, and what is written behind it
 pub record Goes (left : List ℕ) (Then : List ℕ → Type 0) (more : List ℕ) : Type 0 where
@@ -95,7 +100,7 @@ fewest (number limit n ∷ forms) least = least + (1 + fewest forms 1)
 fewest (text ∷ forms) least = 0
 
 abbrev pub zero_head : Head
-zero_head = record { flags = 0; size = 0; cas = 0 }
+zero_head = record { flags = 0; size = 0; cas = 0; count = 0 }
 
 -- how many bytes must follow in a part
 abbrev pub needed : Word → Bool → List ℕ → LinePart → ℕ
@@ -107,15 +112,23 @@ needed first has key Blank = 0
 needed first has key Return = 0
 needed first has key Text = 0
 
--- only the line of a value has a key and numbers, and a unique number only where one is asked for
+-- a line begins with its word, but for one that is a number
+abbrev pub is_worded : Tail → Bool
+is_worded tails.Nothing = true
+is_worded tails.Text = true
+is_worded tails.Value = true
+is_worded tails.Count = false
+
+-- only the line of a value has a key and numbers behind its word, and a unique number only where one is asked for
 abbrev pub HasName : Word → Name → Type 0
-HasName first First = Unit {0}
+HasName first First = is_worded (tail_of first) ≡ true
 HasName first Key = tail_of first ≡ tails.Value
 
 abbrev pub HasNumber : Word → Bool → Number → Type 0
 HasNumber first has Flags = tail_of first ≡ tails.Value
 HasNumber first has Size = tail_of first ≡ tails.Value
 HasNumber first has Cas = (tail_of first ≡ tails.Value) × (has ≡ true)
+HasNumber first has Count = tail_of first ≡ tails.Count
 
 -- and the value of a number so far is no more than its limit
 abbrev pub IsValidAt : Word → Bool → LinePart → Type 0
@@ -179,9 +192,16 @@ abbrev pub Ends : Bool → List ℕ → Candidate → Option Head → Type 0
 Ends has key c None = (head : Head) → Follows c.first has key c.head c.part head [] → ⊥
 Ends has key c (Some read) = Follows c.first has key c.head c.part read []
 
+-- where a line begins
+abbrev pub start_of : Tail → LinePart
+start_of tails.Nothing = BeforeName First
+start_of tails.Text = BeforeName First
+start_of tails.Value = BeforeName First
+start_of tails.Count = BeforeNumber Count
+
 -- a line of which nothing has come
 abbrev pub new_candidate : Bool → List ℕ → Word → Candidate
-new_candidate has key first = record { first = first; part = BeforeName First; head = zero_head; spare = 2048 - needed first has key (BeforeName First) }
+new_candidate has key first = record { first = first; part = start_of (tail_of first); head = zero_head; spare = 2048 - needed first has key (BeforeName First) }
 
 -- a word that can be distinguished from spaces and the end of a line
 abbrev pub is_clean : List ℕ → Bool

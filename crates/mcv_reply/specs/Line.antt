@@ -75,10 +75,18 @@ abbrev pub tail_forms : Tail → Bool → List ℕ → Head → List Form
 tail_forms tails.Nothing has key head = []
 tail_forms tails.Text has key head = text ∷ []
 tail_forms tails.Value has key head = word key ∷ flags_forms has head
+tail_forms tails.Count has key head = []
 
--- a line of this first word, without its LF, for a leg with this key; that of a value says the numbers
+-- the first word of a line, or the number that it is
+abbrev pub first_form : Tail → List ℕ → Head → Form
+first_form tails.Nothing first head = word first
+first_form tails.Text first head = word first
+first_form tails.Value first head = word first
+first_form tails.Count first head = number 18446744073709551615 head.count
+
+-- a line of this first word, without its LF, for a leg with this key; that of a value, and one that is a number, says the numbers
 pub record IsLine (row : Row) (key : List ℕ) (first : Word) (head : Head) (line : List ℕ) : Type 0 where
   pub may : Contains (words row) first
-  pub writes : Writes (word (word_text first) ∷ tail_forms (tail_of first) (has_cas row) key head) 0 line
+  pub writes : Writes (first_form (tail_of first) (word_text first) head ∷ tail_forms (tail_of first) (has_cas row) key head) 0 line
   pub no_end : All (λ b. b ≢ 10) line
   pub short : length line ≤ 2048

@@ -2,28 +2,29 @@
 use Rattle.std.specs.Prelude.{◌≡◌, ℕ, Bool, true, false, List, [], ◌∷◌, ◌++◌, length, Option, Some, None}
 use Rattle.std.specs.Str.Lines.{strip_carriage_return}
 use Rattle.mcv_base.specs.declared.operation.Op.{Op}
-use Rattle.mcv_base.specs.Reply.{ReplyValue, hit, miss, stored, not_stored, exists, not_found, deleted, touched, fault}
+use Rattle.mcv_base.specs.Reply.{ReplyValue, hit, miss, stored, not_stored, exists, not_found, deleted, touched, number, fault}
 use Rattle.mcv_reply.specs.declared.word.Word.{Word}
-use Rattle.mcv_reply.specs.declared.word.Word.TheVariants.{End, Value, Stored, NotStored, Exists, NotFound, Deleted, Touched, Error, ClientError, ServerError, Version}
+use Rattle.mcv_reply.specs.declared.word.Word.TheVariants.{End, Value, Stored, NotStored, Exists, NotFound, Deleted, Touched, Count, Error, ClientError, ServerError, Version}
 use Rattle.mcv_reply.specs.declared.word.Row.TheVariants as rows
 use Rattle.mcv_reply.specs.declared.candidate.Head.{Head}
 use Rattle.mcv_reply.specs.Word.{has_cas}
 use Rattle.mcv_reply.specs.Line.{IsLine}
 
 -- the reply that is this line alone; a Fault keeps the line
-abbrev pub said_alone : Word → List ℕ → Option ReplyValue
-said_alone End line = Some miss
-said_alone Value line = None
-said_alone Stored line = Some stored
-said_alone NotStored line = Some not_stored
-said_alone Exists line = Some exists
-said_alone NotFound line = Some not_found
-said_alone Deleted line = Some deleted
-said_alone Touched line = Some touched
-said_alone Error line = Some (fault (strip_carriage_return line))
-said_alone ClientError line = Some (fault (strip_carriage_return line))
-said_alone ServerError line = Some (fault (strip_carriage_return line))
-said_alone Version line = None
+abbrev pub said_alone : Word → Head → List ℕ → Option ReplyValue
+said_alone End head line = Some miss
+said_alone Value head line = None
+said_alone Stored head line = Some stored
+said_alone NotStored head line = Some not_stored
+said_alone Exists head line = Some exists
+said_alone NotFound head line = Some not_found
+said_alone Deleted head line = Some deleted
+said_alone Touched head line = Some touched
+said_alone Count head line = Some (number head.count)
+said_alone Error head line = Some (fault (strip_carriage_return line))
+said_alone ClientError head line = Some (fault (strip_carriage_return line))
+said_alone ServerError head line = Some (fault (strip_carriage_return line))
+said_alone Version head line = None
 
 abbrev pub cas_said : Bool → ℕ → Option ℕ
 cas_said true cas = Some cas
@@ -46,10 +47,10 @@ pub record SpellsHit (op : Op) (key bytes : List ℕ) (reply : ReplyValue) : Typ
 pub record SpellsAlone (op : Op) (key bytes : List ℕ) (reply : ReplyValue) : Type 0 where
   pub first : Word
   pub line : List ℕ
-  pub other : Head
-  pub line_is : IsLine (rows.Reply op) key first other line
+  pub head : Head
+  pub line_is : IsLine (rows.Reply op) key first head line
   pub parts : bytes ≡ line ++ 10 ∷ []
-  pub says : said_alone first line ≡ Some reply
+  pub says : said_alone first head line ≡ Some reply
 
 -- the bytes are this reply to a leg of this operation and rest
 pub data Spells (op : Op) (key bytes : List ℕ) (reply : ReplyValue) : Type 0 where

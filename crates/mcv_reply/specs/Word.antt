@@ -4,12 +4,13 @@ use Rattle.mcv_base.specs.declared.operation.Op.{Op}
 use Rattle.mcv_base.specs.declared.operation.Op.TheVariants as ops
 use Rattle.mcv_base.specs.Operation.{is_same_op}
 use Rattle.mcv_reply.specs.declared.word.Word.{Word}
-use Rattle.mcv_reply.specs.declared.word.Word.TheVariants.{End, Value, Stored, NotStored, Exists, NotFound, Deleted, Touched, Error, ClientError, ServerError, Version}
+use Rattle.mcv_reply.specs.declared.word.Word.TheVariants.{End, Value, Stored, NotStored, Exists, NotFound, Deleted, Touched, Count, Error, ClientError, ServerError, Version}
 use Rattle.mcv_reply.specs.declared.word.Tail.{Tail}
 use Rattle.mcv_reply.specs.declared.word.Tail.TheVariants as tails
 use Rattle.mcv_reply.specs.declared.word.Row.{Row}
 use Rattle.mcv_reply.specs.declared.word.Row.TheVariants.{Reply, AfterValue, Probe}
 
+-- of a number, which has many spellings, a least one
 abbrev pub word_text : Word → List ℕ
 word_text End = codes "END"
 word_text Value = codes "VALUE"
@@ -19,6 +20,7 @@ word_text Exists = codes "EXISTS"
 word_text NotFound = codes "NOT_FOUND"
 word_text Deleted = codes "DELETED"
 word_text Touched = codes "TOUCHED"
+word_text Count = codes "0"
 word_text Error = codes "ERROR"
 word_text ClientError = codes "CLIENT_ERROR"
 word_text ServerError = codes "SERVER_ERROR"
@@ -34,6 +36,7 @@ tail_of Exists = tails.Nothing
 tail_of NotFound = tails.Nothing
 tail_of Deleted = tails.Nothing
 tail_of Touched = tails.Nothing
+tail_of Count = tails.Count
 tail_of Error = tails.Nothing
 tail_of ClientError = tails.Text
 tail_of ServerError = tails.Text
@@ -51,6 +54,8 @@ answers ops.Prepend = Stored ∷ NotStored ∷ Error ∷ ClientError ∷ ServerE
 answers ops.Cas = Stored ∷ NotStored ∷ Exists ∷ NotFound ∷ Error ∷ ClientError ∷ ServerError ∷ []
 answers ops.Delete = Deleted ∷ NotFound ∷ Error ∷ ClientError ∷ ServerError ∷ []
 answers ops.Touch = Touched ∷ NotFound ∷ Error ∷ ClientError ∷ ServerError ∷ []
+answers ops.Incr = Count ∷ NotFound ∷ Error ∷ ClientError ∷ ServerError ∷ []
+answers ops.Decr = Count ∷ NotFound ∷ Error ∷ ClientError ∷ ServerError ∷ []
 
 -- a value is followed by a line END, and a probe is answered by a line VERSION
 abbrev pub words : Row → List Word

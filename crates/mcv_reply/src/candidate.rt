@@ -4,19 +4,20 @@
 //! many bytes the line may have beside those that it must have.
 
 ghost use Rattle.std.specs.Prelude.{◌≡◌, ◌≢◌, ◌∷◌, [], ◌≤◌, ◌<◌, ◌+◌, ◌*◌, ◌-◌, ◌==◌, List, ℕ, length, Bool, All, MatchOption, Some, None, true, false, if◌then◌else◌};
-ghost use Rattle.mcv_reply.specs.Candidate.{Ends, HasName, HasNumber, IsDigitOf, IsValid, AdvancesAt, AdvancesBehindName, AdvancesBehindNumber, Reads, is_clean, limit_of, name_text, needed, new_candidate};
+ghost use Rattle.mcv_reply.specs.Candidate.{Ends, HasName, HasNumber, IsDigitOf, IsValid, AdvancesAt, AdvancesBehindName, AdvancesBehindNumber, Reads, is_clean, limit_of, name_text, needed, new_candidate, start_of};
 
 use crate::word::{Tail, Word};
 
 /// The bytes that a line may have before its LF.
 pub const LINE_LIMIT: usize = 2048;
 
-/// The numbers of a value's line: 32 bits, at most 1,048,576, and 64 bits.
+/// The numbers of a value's line: 32 bits, at most 1,048,576, and 64 bits; and the number that a line is, of 64 bits.
 #[derive(Clone, Copy, Default, PartialEq, Eq)]
 pub struct Head {
     pub flags: u64,
     pub size: u64,
     pub cas: u64,
+    pub count: u64,
 }
 
 /// A word of a line that is known beforehand.
@@ -32,6 +33,8 @@ pub enum Number {
     Flags,
     Size,
     Cas,
+    /// The number that the line is.
+    Count,
 }
 
 /// The part of a line that has been reached.
@@ -88,7 +91,7 @@ impl Number {
         match self {
             Number::Flags => 4_294_967_295,
             Number::Size => 1_048_576,
-            Number::Cas => 18_446_744_073_709_551_615,
+            Number::Cas | Number::Count => 18_446_744_073_709_551_615,
         }
     }
 }
@@ -150,6 +153,7 @@ fn behind_name(cas: bool, key: &[u8], candidate: Candidate, name: Name, byte: u8
             Tail::Nothing => closing(candidate, LinePart::Blank, byte),
             Tail::Text => closing(candidate, LinePart::Text, byte),
             Tail::Value => separated(candidate, LinePart::BeforeName(Name::Key), byte),
+            Tail::Count => unreachable!(),
         },
         Name::Key => separated(candidate, LinePart::BeforeNumber(Number::Flags), byte),
     }
@@ -223,6 +227,13 @@ fn behind_number(
         Number::Cas => {
             let head = Head {
                 cas: value,
+                ..candidate.head
+            };
+            closing(Candidate { head, ..candidate }, LinePart::Blank, byte)
+        }
+        Number::Count => {
+            let head = Head {
+                count: value,
                 ..candidate.head
             };
             closing(Candidate { head, ..candidate }, LinePart::Blank, byte)
@@ -353,6 +364,16 @@ fn step(cas: bool, key: &[u8], candidate: Candidate, byte: u8) -> Option<Candida
     Some(Candidate { spare, ..next })
 }
 
+/// Where a line begins.
+fn start_of(tail: Tail) -> LinePart
+    ensures { result ≡ start_of tail }
+{
+    match tail {
+        Tail::Nothing | Tail::Text | Tail::Value => LinePart::BeforeName(Name::First),
+        Tail::Count => LinePart::BeforeNumber(Number::Count),
+    }
+}
+
 impl Candidate {
     /// The bytes that a line of this first word must have.
     fn fewest(cas: bool, key: &[u8], first: Word) -> usize
@@ -360,7 +381,7 @@ impl Candidate {
         ensures { result ≡ needed first cas key.now (LinePart.BeforeName Name.First) }
     {
         let behind = match first.tail() {
-            Tail::Nothing | Tail::Text => 0,
+            Tail::Nothing | Tail::Text | Tail::Count => 0,
             Tail::Value => 1 + key.len() + 4 + if cas { 2 } else { 0 },
         };
         first.text().len() + behind
@@ -373,11 +394,12 @@ impl Candidate {
     {
         Candidate {
             first,
-            part: LinePart::BeforeName(Name::First),
+            part: start_of(first.tail()),
             head: Head {
                 flags: 0,
                 size: 0,
                 cas: 0,
+                count: 0,
             },
             spare: LINE_LIMIT - Candidate::fewest(cas, key, first),
         }
@@ -439,6 +461,10 @@ impl Candidate {
                 cas: value,
                 ..self.head
             }),
+            Number::Count => Some(Head {
+                count: value,
+                ..self.head
+            }),
         }
     }
 
@@ -451,7 +477,7 @@ impl Candidate {
             return None;
         }
         match self.first.tail() {
-            Tail::Nothing | Tail::Text => Some(self.head),
+            Tail::Nothing | Tail::Text | Tail::Count => Some(self.head),
             Tail::Value => None,
         }
     }

@@ -75,6 +75,7 @@ fn numbers(cas: bool, bytes: &[u8]) -> Option<Head>
         flags,
         size,
         cas: number,
+        count: 0,
     })
 }
 
@@ -141,6 +142,7 @@ fn word_said(op: Op, key: &[u8], line: &[u8]) -> Option<Meaning>
             flags: 0,
             size: 0,
             cas: 0,
+            count: 0,
         },
     })
 }

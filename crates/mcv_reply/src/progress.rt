@@ -64,8 +64,8 @@ pub struct Step {
 }
 
 /// The reply that is this line alone.
-fn alone(first: Word, line: Vec<u8>) -> Option<Reply>
-    ensures { MatchOption result (said_alone first line.items ≡ None) (λ r. said_alone first line.items ≡ Some (reply_value r)) }
+fn alone(first: Word, head: Head, line: Vec<u8>) -> Option<Reply>
+    ensures { MatchOption result (said_alone first head line.items ≡ None) (λ r. said_alone first head line.items ≡ Some (reply_value r)) }
 {
     match first {
         Word::End => Some(Reply::Miss),
@@ -75,6 +75,7 @@ fn alone(first: Word, line: Vec<u8>) -> Option<Reply>
         Word::NotFound => Some(Reply::NotFound),
         Word::Deleted => Some(Reply::Deleted),
         Word::Touched => Some(Reply::Touched),
+        Word::Count => Some(Reply::Number(head.count)),
         Word::Error | Word::ClientError | Word::ServerError => Some(Reply::Fault(without_return(
             line,
         ))),
@@ -133,7 +134,7 @@ fn line_said(
     if let Word::Value = said.first {
         return value_begins(alloc, op, key, progress, line, said.head);
     }
-    match alone(said.first, line) {
+    match alone(said.first, said.head, line) {
         Some(reply) => Ok(Some(reply)),
         None => Err(ReplyFault::NotAReply),
     }

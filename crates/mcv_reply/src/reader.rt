@@ -118,6 +118,7 @@ impl ReplyReader {
                     flags: 0,
                     size: 0,
                     cas: 0,
+                    count: 0,
                 },
                 body: Vec::new(alloc),
             },

@@ -19,6 +19,8 @@ pub enum Word {
     NotFound,
     Deleted,
     Touched,
+    /// No word: the new number, for incr and decr.
+    Count,
     Error,
     ClientError,
     ServerError,
@@ -34,6 +36,8 @@ pub enum Tail {
     Text,
     /// The key and numbers of a value.
     Value,
+    /// Nothing: the line is a number, and has no word.
+    Count,
 }
 
 /// The place of a line among what a server says.
@@ -48,6 +52,7 @@ pub enum Row {
 }
 
 impl Word {
+    /// Its spelling; of a number, which has many, a least one.
     pub fn text(self) -> &'static [u8]
         ensures { result.now ≡ word_text self }
     {
@@ -60,6 +65,7 @@ impl Word {
             Word::NotFound => b"NOT_FOUND",
             Word::Deleted => b"DELETED",
             Word::Touched => b"TOUCHED",
+            Word::Count => b"0",
             Word::Error => b"ERROR",
             Word::ClientError => b"CLIENT_ERROR",
             Word::ServerError => b"SERVER_ERROR",
@@ -72,6 +78,7 @@ impl Word {
     {
         match self {
             Word::Value => Tail::Value,
+            Word::Count => Tail::Count,
             Word::ClientError | Word::ServerError | Word::Version => Tail::Text,
             _ => Tail::Nothing,
         }
@@ -144,6 +151,15 @@ fn answers(op: Op) -> &'static [Word]
         Op::Touch => {
             &[
                 Word::Touched,
+                Word::NotFound,
+                Word::Error,
+                Word::ClientError,
+                Word::ServerError,
+            ]
+        }
+        Op::Incr | Op::Decr => {
+            &[
+                Word::Count,
                 Word::NotFound,
                 Word::Error,
                 Word::ClientError,

@@ -133,7 +133,7 @@ kept-at p (y ∷ xs) x (suc k) e h is =
 
 -- ---- the last break is the only one
 
-only-since : (bs : List ℕ) (m : ℕ) (s t : Option ℕ) → IsSince bs m s → IsSince bs m t → s ≡ t
+pub only-since : (bs : List ℕ) (m : ℕ) (s t : Option ℕ) → IsSince bs m s → IsSince bs m t → s ≡ t
 only-since bs m None None f g = refl
 only-since bs m None (Some t) f g = let far : m < t = All-contains (λ b. m < b) bs t f g.0 in absurd (omega (arith, far, g.1))
 only-since bs m (Some s) None f g = let far : m < s = All-contains (λ b. m < b) bs s g f.0 in absurd (omega (arith, far, f.1))

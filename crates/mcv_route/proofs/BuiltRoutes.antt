@@ -56,7 +56,7 @@ sound-entries c pools is sound =
 pub routes-are : (c : ConfigParts) (pools : List (List ℕ)) (symbols : List SymbolValue) (built : List AliasedRoute) → pools ≡ map pool_servers c.pools.items
     → map (λ r. r.aliases.items) built ≡ map (λ e. e.aliases.items) c.entries.items
     → IsBuilt pools [] (map (λ e. named_of e.route) c.entries.items) symbols (map (λ r. view r.route) built)
-    → record { servers = c.servers; symbols = symbols; entries = map entry_view built } ≡ routes_named (config_value c)
+    → record { servers = c.servers; symbols = symbols; entries = map entry_view built; window = 0 } ≡ routes_named (config_value c)
 routes-are c pools symbols built pools-are a b =
     let entries = c.entries.items in
     let P = (config_value c).pools in
@@ -68,7 +68,7 @@ routes-are c pools symbols built pools-are a b =
     let trees : map (λ r. view r.route) built ≡ map (λ e. tree_named S P (named_of e.route)) entries =
     whole.trees_are ∙ map-map (tree_named symbols P) (λ e. named_of e.route) entries ∙ ap (λ s. map (λ e. tree_named s P (named_of e.route)) entries) table in
     let all = entries-are S P entries built a trees in
-    λ i. record { servers = c.servers; symbols = table i; entries = all i }
+    λ i. record { servers = c.servers; symbols = table i; entries = all i; window = 0 }
 
 position-map : {A B : Type 0} (p : B → Bool) (f : A → B) (xs : List A) → position_or_len p (map f xs) ≡ position_or_len (λ x. p (f x)) xs
 position-map p f [] = refl

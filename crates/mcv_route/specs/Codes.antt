@@ -112,6 +112,6 @@ entry_code =
 
 abbrev pub routes_code : Coded RoutesValue
 routes_code =
-    code_by (List (List ℕ) × (List SymbolValue × List RouteEntry))
-    (coded× (coded_list (coded_list coded_ℕ)) (coded× (coded_list symbol_row.coded) (coded_list entry_code)))
-    (λ r. (r.servers, (r.symbols, r.entries))) (λ p. record { servers = p.0; symbols = p.1.0; entries = p.1.1 }) (λ _. refl)
+    code_by (List (List ℕ) × (List SymbolValue × (List RouteEntry × ℕ)))
+    (coded× (coded_list (coded_list coded_ℕ)) (coded× (coded_list symbol_row.coded) (coded× (coded_list entry_code) coded_ℕ)))
+    (λ r. (r.servers, (r.symbols, (r.entries, r.window)))) (λ p. record { servers = p.0; symbols = p.1.0; entries = p.1.1.0; window = p.1.1.1 }) (λ _. refl)

@@ -1,5 +1,5 @@
 -- Eras: what handles send changes at certain moments only, their breaks. An era lasts from one to the next (own).
-use Rattle.std.specs.Prelude.{◌≡◌, ◌≢◌, ◌≤◌, ◌<◌, ℕ, zero, suc, ◌+◌, ◌*◌, List, [], ◌∷◌, ◌++◌, Option, Some, None, ⊤, nat_le, nat_eq, max, filter, length, slice_get}
+use Rattle.std.specs.Prelude.{◌≡◌, ◌≢◌, ◌≤◌, ◌<◌, ◌↔◌, ◌⊎◌, ℕ, zero, suc, ◌+◌, ◌*◌, List, [], ◌∷◌, ◌++◌, Option, Some, None, ⊤, nat_le, nat_eq, max, filter, length, slice_get, slice_index}
 use Rattle.std.specs.Option.{option_map_or}
 use Rattle.std.specs.List.{All, Contains, flat_map}
 use Rattle.std.specs.List.Sorted.{IsStrictlyIncreasing}
@@ -68,6 +68,30 @@ IsEraOf r (suc k) since = (table : List ℕ) × IsBreakTable (breaks_of r) table
 abbrev pub HasEra : RoutesValue → ℕ → Type 0
 HasEra r era = (since : Option ℕ) × IsEraOf r era since
 
+-- a moment of the one era and a moment of the other are at most w apart
+pub record HaveMomentsWithin (bs : List ℕ) (w : ℕ) (since other : Option ℕ) : Type 0 where
+  pub moment : ℕ
+  pub another : ℕ
+  pub in_one : since_at bs moment ≡ since
+  pub in_other : since_at bs another ≡ other
+  pub after : another ≤ moment + w
+  pub before : moment ≤ another + w
+
+-- the eras that these breaks opened are near: they have moments at most w apart, or are one, which may have no moment
+abbrev pub IsNear : RoutesValue → ℕ → Option ℕ → Option ℕ → Type 0
+IsNear r w since other = (since ≡ other) ⊎ HaveMomentsWithin (breaks_of r) w since other
+
+-- era `other` is one of the routes', and near era `era`, by their numbers
+abbrev pub IsNearEra : RoutesValue → ℕ → ℕ → ℕ → Type 0
+IsNearEra r w era other = (since : Option ℕ) × (read : Option ℕ) × IsEraOf r era since × IsEraOf r other read × IsNear r w since read
+
+-- the eras from `first` on, and before `end`, are those that are near one
+pub record AreNearEras (r : RoutesValue) (w era first end : ℕ) : Type 0 where
+  pub first_is : first ≤ era
+  pub end_is : era < end
+  pub near : (other : ℕ) → first ≤ other → other < end → IsNearEra r w era other
+  pub all : (other : ℕ) → IsNearEra r w era other → (first ≤ other) × (other < end)
+
 -- s is the last of the breaks that are at the moment or before it, or none of them is
 abbrev pub IsSince : List ℕ → ℕ → Option ℕ → Type 0
 IsSince bs moment None = All (λ b. moment < b) bs
@@ -88,3 +112,22 @@ ErasSayWhatHasPassed = (bs : List ℕ) (moment b : ℕ) → Contains bs b → ha
 -- at every moment the last break before it is what opened the era of the moment's number, and begins one of the routes' eras
 abbrev pub MomentsHaveEras : Type 0
 MomentsHaveEras = (r : RoutesValue) (moment : ℕ) → IsEraOf r (era_at (breaks_of r) moment) (since_at (breaks_of r) moment) × IsEra r (since_at (breaks_of r) moment)
+
+-- two moments at most w apart are in near eras
+abbrev pub MomentsAreNear : Type 0
+MomentsAreNear = (r : RoutesValue) (w m n : ℕ) → n ≤ m + w → m ≤ n + w → IsNear r w (since_at (breaks_of r) m) (since_at (breaks_of r) n)
+
+-- of two eras that aren't one, the earlier ends by the break of its number in the table, and the later began at that before its own: they are near where the
+-- second of these is less than w after the first, but before a break at 0 there is no moment
+abbrev pub NearByBreaks : Type 0
+NearByBreaks =
+    (r : RoutesValue) (table : List ℕ) (w e f : ℕ) (since other : Option ℕ) → IsBreakTable (breaks_of r) table → e ≤ f → IsEraOf r e since → IsEraOf r (suc f) other
+    → IsNear r w since other ↔ (0 < slice_index table e) × (slice_index table f < slice_index table e + w)
+
+-- each era is near itself, and the near ones of another are those to which it is near
+abbrev pub NearIsSymmetric : Type 0
+NearIsSymmetric = (r : RoutesValue) (w : ℕ) (since other : Option ℕ) → IsNear r w since since × (IsNear r w since other → IsNear r w other since)
+
+-- within no time no other era is near, and within more time none is lost
+abbrev pub NearGrows : Type 0
+NearGrows = (r : RoutesValue) (w v : ℕ) (since other : Option ℕ) → (IsNear r 0 since other → since ≡ other) × (w ≤ v → IsNear r w since other → IsNear r v since other)

@@ -72,4 +72,5 @@ routes_named p = record {
   servers = p.servers;
   symbols = symbols_named p;
   entries = map (λ e. record { aliases = e.aliases; tree = tree_named (symbols_named p) p.pools e.route }) p.entries;
+  window = 0;
 }

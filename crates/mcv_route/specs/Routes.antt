@@ -15,6 +15,12 @@ pub record RoutesValue : Type 0 where
   -- in the order of their numbers
   pub symbols : List SymbolValue
   pub entries : List RouteEntry
+  -- how far apart a delete and a get are looked at, in seconds; 0: in one era alone
+  pub window : ℕ
+
+-- the same routes, looked at within another window
+abbrev pub within : ℕ → RoutesValue → RoutesValue
+within w r = record r { window = w }
 
 -- one server or more, each in the table, and as many as the pool's symbol has
 pub record IsSoundPool (servers : ℕ) (symbols : List SymbolValue) (p : Pool) : Type 0 where

@@ -15,7 +15,7 @@ abbrev pub entry_view : AliasedRoute → RouteEntry
 entry_view e = record { aliases = e.aliases.items; tree = view e.route }
 
 abbrev pub routes_view : Inside → RoutesValue
-routes_view r = record { servers = r.servers; symbols = r.symbols; entries = map entry_view r.entries.items }
+routes_view r = record { servers = r.servers; symbols = r.symbols; entries = map entry_view r.entries.items; window = r.window }
 
 -- the numbers of moments
 abbrev pub numbers_of : List Moment → List ℕ

@@ -4,8 +4,10 @@ use Rattle.mcv_base.specs.declared.operation.Op.{Op}
 use Rattle.mcv_base.specs.declared.operation.Op.TheVariants.{Delete}
 use Rattle.mcv_base.specs.declared.reply.Outcome.{Outcome}
 use Rattle.mcv_base.specs.declared.reply.Outcome.TheVariants.{Good, Error}
-use Rattle.mcv_base.specs.Operation.{is_counting, is_reading}
+use Rattle.mcv_base.specs.Operation.{is_counting, shows_value}
 use Rattle.mcv_route.specs.Outcomes.{Outcomes, Choice, IsChoice, History, outcomes}
+use Rattle.mcv_route.specs.Eras.{IsEra, IsNear}
+use Rattle.mcv_route.specs.Routes.{RoutesValue}
 use Rattle.mcv_route.specs.Tree.{Tree}
 use Rattle.mcv_route.specs.Situation.{Situation, asked}
 use Rattle.mcv_route.specs.Replies.{leg, replies}
@@ -36,9 +38,13 @@ IsHit t s o p = Has (replies t s o) (λ a. a ≡ record { outcome = Good; source
 abbrev pub CanHit : Tree → Situation → Choice → ℕ → Type 0
 CanHit t s c x = (o : Outcomes) × IsReachable t s c o × Has (launched t s c o) (λ l. (l.server.0 ≡ x) × IsHit t s o l.position)
 
--- an operation that reads can be answered by the server
+-- an operation whose answer shows the value can be answered by the server
 abbrev pub IsReadable : Tree → List ℕ → Option ℕ → Choice → ℕ → Type 0
-IsReadable t rest since c x = (op : Op) × (is_reading op ≡ true) × CanHit t (asked op rest since) c x
+IsReadable t rest since c x = (op : Op) × (shows_value op ≡ true) × CanHit t (asked op rest since) c x
+
+-- the same in some era that is near this one, within the window of the routes
+abbrev pub IsReadableNear : RoutesValue → Tree → List ℕ → Option ℕ → Choice → ℕ → Type 0
+IsReadableNear r t rest since c x = (read : Option ℕ) × IsEra r read × IsNear r r.window since read × IsReadable t rest read c x
 
 -- the delete was sent to the server by a leg that counts
 abbrev pub IsSent : Tree → List ℕ → Option ℕ → Choice → Outcomes → ℕ → Type 0
@@ -48,8 +54,8 @@ IsSent t rest since c o x = Has (launched t (asked Delete rest since) c o) (λ l
 abbrev pub IsDone : Tree → List ℕ → Option ℕ → Outcomes → Type 0
 IsDone t rest since o = Has (replies t (asked Delete rest since) o) (λ a. a.outcome ≢ Error)
 
--- under every choice, a delete that is done was sent to each server that can be read
-abbrev pub IsCovered : List ℕ → Tree → List ℕ → Option ℕ → Type 0
-IsCovered sizes t rest since =
+-- under every choice, a delete in one era that is done was sent to each server that can be read in the other
+abbrev pub IsCovered : List ℕ → Tree → List ℕ → (since read : Option ℕ) → Type 0
+IsCovered sizes t rest since read =
     (c : Choice) (o : Outcomes) → IsChoice sizes c → IsReachable t (asked Delete rest since) c o → IsDone t rest since o
-    → (x : ℕ) → IsReadable t rest since c x → IsSent t rest since c o x
+    → (x : ℕ) → IsReadable t rest read c x → IsSent t rest since c o x

@@ -12,7 +12,9 @@ mod routes;
 mod tree;
 
 pub use children::child_of;
-pub use eras::{era_count, eras_are_opened_by_breaks, opened};
+pub use eras::{
+    NearEras, era_count, eras_are_near, eras_are_opened_by_breaks, near, near_eras, opened,
+};
 pub use launch::{Answered, Launch};
 pub use mcv_names::Many;
 pub use routes::Routes;

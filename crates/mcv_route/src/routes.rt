@@ -9,7 +9,7 @@ ghost use Rattle.mcv_route.specs.NamedRoutes.{routes_named};
 ghost use Rattle.mcv_route.specs.Eras.{breaks, breaks_of, era_at, since_at, IsBreakTable};
 ghost use Rattle.mcv_route.specs.Limits.{AreWithinLimits};
 ghost use Rattle.mcv_route.specs.Places.{is_alias, leaf_in, route_of_prefix};
-ghost use Rattle.mcv_route.specs.Routes.{IsSoundRoutes};
+ghost use Rattle.mcv_route.specs.Routes.{IsSoundRoutes, within};
 ghost use Rattle.mcv_route.specs.RoutesView.{entry_view};
 ghost use Rattle.mcv_route.specs.View.{pool_view, view};
 ghost use Rattle.mcv_route.specs.Walk.{IsBuilt, list_view};
@@ -40,6 +40,7 @@ pub struct Routes {
     entries: Vec<AliasedRoute>,
     /// The breaks of all entries, in rising order.
     break_table: Vec<Moment>,
+    window: u64,
 }
 
 impl Model for Routes {
@@ -78,7 +79,35 @@ impl Routes {
             symbols,
             entries,
             break_table,
+            window: 0,
         })
+    }
+
+    /// The same routes, looked at within this window.
+    pub fn within(self, window: u64) -> Routes
+        ensures { result ≡ within window self }
+    {
+        let Routes {
+            servers,
+            symbols,
+            entries,
+            break_table,
+            window: _,
+        } = self;
+        Routes {
+            servers,
+            symbols,
+            entries,
+            break_table,
+            window,
+        }
+    }
+
+    /// How far apart, in seconds, a delete and a get are looked at; 0: in one era alone.
+    pub fn window(&self) -> u64
+        ensures { result ≡ self.now.window }
+    {
+        self.window
     }
 
     /// The table of servers: each text is a host, a colon and a port.

@@ -24,7 +24,7 @@ const NAMES: [(&str, &str); 7] = [
     ("of_all", "111sw"),
 ];
 
-/// What the client asked: with 3 flags, an exptime of 9 s and the value `mine`.
+/// What the client asked: with 3 flags, an exptime of 9 s, the value `mine` and a delta of 7.
 fn client(rt: &(impl AllocGlobal + Abort), op: Op) -> Request {
     let key = Vec::from_slice(rt.alloc(), b"a").expect(rt, "memory");
     Request::Ask(Ask {
@@ -34,6 +34,7 @@ fn client(rt: &(impl AllocGlobal + Abort), op: Op) -> Request {
         exptime: 9,
         body: shared(rt, b"mine"),
         cas: None,
+        delta: 7,
         noreply: false,
     })
 }
@@ -44,7 +45,8 @@ fn shown(rt: &(impl AllocGlobal + Abort), request: &LegRequest) -> String {
     let exptime = request.exptime;
     let body = from_utf8(request.body.as_slice()).unwrap_or("");
     let cas = request.cas;
-    format!(in rt.alloc(); "{op} {flags} {exptime} {body} {cas:?}").expect(rt, "memory")
+    let delta = request.delta;
+    format!(in rt.alloc(); "{op} {flags} {exptime} {body} {cas:?} {delta}").expect(rt, "memory")
 }
 
 fn heard<'a>(rt: &(impl AllocGlobal + Abort), came: &'a [Answered]) -> Vec<Heard<'a>> {
@@ -101,21 +103,22 @@ fn asked(rt: &(impl AllocGlobal + Abort), row: &str, heard: &[Heard<'_>]) -> Str
 }
 
 const ROWS: &str = "\
-pool set set - | set 3 9 mine None
-pool touch touch - | touch 3 9 mine None
-warm_up set set 0 | set 3 9 mine None
-warm_up add add 0 | add 3 9 mine None
-warm_up get add 2 0=miss 1=x | add 7 60 x None
-as_warm get add 1.2 0=miss 1.0=miss 1.1=x | add 7 60 x None
-as_warm get add 2 0=miss 1.0=miss 1.1=x | add 7 5 x None
-as_warm get add 2 0=miss 1.0=y | add 7 5 y None
-as_cold get add 0.2 0.0=miss 0.1=x | add 7 60 x None
-as_cold get add 2.0 0.0=miss 0.1=miss 1=x | add 7 5 x None
-failover get add 1.2 0=lost 1.0=miss 1.1=x | add 7 60 x None
-of_failovers get add 2.0 0.0=lost 0.1=miss 1.0=lost 1.1=x | add 7 60 x None
-of_failovers get add 2.1 0.0=miss 1.0=x 2.0=lost | add 7 60 x None
-of_all get add 2 0=miss 1.1=x 1.0=y | add 7 60 y None
-of_all get add 2 0=miss 1.0=y 1.1=x | add 7 60 x None";
+pool set set - | set 3 9 mine None 7
+pool touch touch - | touch 3 9 mine None 7
+pool incr incr - | incr 3 9 mine None 7
+warm_up set set 0 | set 3 9 mine None 7
+warm_up add add 0 | add 3 9 mine None 7
+warm_up get add 2 0=miss 1=x | add 7 60 x None 0
+as_warm get add 1.2 0=miss 1.0=miss 1.1=x | add 7 60 x None 0
+as_warm get add 2 0=miss 1.0=miss 1.1=x | add 7 5 x None 0
+as_warm get add 2 0=miss 1.0=y | add 7 5 y None 0
+as_cold get add 0.2 0.0=miss 0.1=x | add 7 60 x None 0
+as_cold get add 2.0 0.0=miss 0.1=miss 1=x | add 7 5 x None 0
+failover get add 1.2 0=lost 1.0=miss 1.1=x | add 7 60 x None 0
+of_failovers get add 2.0 0.0=lost 0.1=miss 1.0=lost 1.1=x | add 7 60 x None 0
+of_failovers get add 2.1 0.0=miss 1.0=x 2.0=lost | add 7 60 x None 0
+of_all get add 2 0=miss 1.1=x 1.0=y | add 7 60 y None 0
+of_all get add 2 0=miss 1.0=y 1.1=x | add 7 60 x None 0";
 
 /// What the leg of a row asks after its replies is what the row wants.
 fn check_row(rt: &(impl AllocGlobal + Abort), row: &str) {
@@ -141,6 +144,6 @@ fn spooled(rt: &(impl AllocGlobal + Abort)) -> String {
 /// A delete whose record the spool held at the start has nothing but its rest.
 #[test]
 fn spooled_deletes_ask(rt: HostRuntime) {
-    let row = "delete 0 0  None";
+    let row = "delete 0 0  None 0";
     check_found(&rt, row, spooled(&rt).as_str(), row);
 }

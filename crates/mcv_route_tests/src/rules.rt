@@ -162,6 +162,8 @@ fn nothing_asked_is_a_miss(rt: HostRuntime) {
         (Op::Gets, FixedReply::Miss),
         (Op::Cas, FixedReply::NotStored),
         (Op::Touch, FixedReply::NotFound),
+        (Op::Incr, FixedReply::NotFound),
+        (Op::Decr, FixedReply::NotFound),
     ] {
         check(&rt, default_reply(op) == reply, op.name());
     }

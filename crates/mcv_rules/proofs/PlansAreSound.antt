@@ -1,7 +1,7 @@
 -- Every plan of a route is sound.
 use Rattle.std.proofs.Common.{◌≡◌, ◌≢◌, ◌⊎◌, cond, inl, inr, ⊎_elim, ℕ, zero, suc, ◌+◌, ◌≤◌, ◌<◌, Bool, true, false, List, [], ◌∷◌, ◌++◌, length, refl, sym, ap, ◌∙◌, subst, arith, append_assoc, append-nil, true≢false}
 use Rattle.mcv_base.specs.declared.operation.Op.{Op}
-use Rattle.mcv_base.specs.declared.operation.Op.TheVariants.{Get, Gets, Set, Add, Replace, Append, Prepend, Cas, Delete, Touch}
+use Rattle.mcv_base.specs.declared.operation.Op.TheVariants.{Get, Gets, Set, Add, Replace, Append, Prepend, Cas, Delete, Touch, Incr, Decr}
 use Rattle.mcv_base.specs.declared.operation.Mark.{Mark}
 use Rattle.mcv_base.specs.declared.operation.Mark.TheVariants.{Plain, Async, Shadow}
 use Rattle.mcv_base.specs.declared.operation.Mark.TheVariants.{Add as Added}
@@ -219,6 +219,8 @@ reading_is_no_delete Prepend e = refl
 reading_is_no_delete Cas e = refl
 reading_is_no_delete Delete e = absurd (true≢false (sym e))
 reading_is_no_delete Touch e = refl
+reading_is_no_delete Incr e = refl
+reading_is_no_delete Decr e = refl
 
 async_counts : (m : Mark) → is_counting (marked_async m) ≡ is_counting m
 async_counts Plain = refl

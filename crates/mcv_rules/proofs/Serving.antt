@@ -5,7 +5,7 @@ use Rattle.std.proofs.lemmas.List.{length-take-le, length-map, map-append}
 use Rattle.std.specs.declared.alloc.AllocError.{AllocError}
 use Rattle.std.specs.Prelude.{IfOk, Result, Ok, Err, fold, ◌==◌}
 use Rattle.mcv_base.specs.declared.operation.Op.{Op}
-use Rattle.mcv_base.specs.declared.operation.Op.TheVariants.{Get, Gets, Set, Add, Replace, Append, Prepend, Cas, Delete, Touch}
+use Rattle.mcv_base.specs.declared.operation.Op.TheVariants.{Get, Gets, Set, Add, Replace, Append, Prepend, Cas, Delete, Touch, Incr, Decr}
 use Rattle.mcv_base.specs.declared.reply.Outcome.{Outcome}
 use Rattle.mcv_base.specs.declared.reply.Outcome.TheVariants.{Soft, Error}
 use Rattle.mcv_base.specs.declared.reply.FixedReply.{FixedReply}
@@ -83,6 +83,8 @@ default_is_soft Prepend = refl
 default_is_soft Cas = refl
 default_is_soft Delete = refl
 default_is_soft Touch = refl
+default_is_soft Incr = refl
+default_is_soft Decr = refl
 
 pub serves-null : (f : FixedReply) (s : Situation) → f ≡ default_reply s.op → Serves (Reply f) null s
 serves-null f s e = record {

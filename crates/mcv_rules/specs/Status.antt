@@ -1,7 +1,7 @@
 -- Whether a call has its reply, and by which reply.
 use Rattle.std.specs.Prelude.{List, Option, Some, None, slice_get, option_map}
 use Rattle.mcv_base.specs.declared.operation.Op.{Op}
-use Rattle.mcv_base.specs.declared.operation.Op.TheVariants.{Get, Gets, Set, Add, Replace, Append, Prepend, Cas, Delete, Touch}
+use Rattle.mcv_base.specs.declared.operation.Op.TheVariants.{Get, Gets, Set, Add, Replace, Append, Prepend, Cas, Delete, Touch, Incr, Decr}
 use Rattle.mcv_base.specs.declared.reply.Outcome.{Outcome}
 use Rattle.mcv_base.specs.declared.reply.FixedReply.{FixedReply}
 use Rattle.mcv_base.specs.declared.reply.FixedReply.TheVariants.{Miss, NotFound, NotStored, ErrorRoute}
@@ -27,6 +27,8 @@ default_reply Prepend = NotStored
 default_reply Cas = NotStored
 default_reply Delete = NotFound
 default_reply Touch = NotFound
+default_reply Incr = NotFound
+default_reply Decr = NotFound
 
 -- the reply recorded at the leg's position, the default reply, or ErrorRoute's
 abbrev pub source_of : Op → List Answered → replies.Source → Source

@@ -79,7 +79,7 @@ impl<'a> Asked<'a> {
     pub fn is_warmed_up(&self) -> bool
         ensures { result ≡ is_warmed_up self.now.op }
     {
-        self.op.is_reading()
+        matches!(self.op, Op::Get | Op::Gets)
     }
 
     /// Where a migration sends what is asked: of deletes more than of the rest, between its start and its end.

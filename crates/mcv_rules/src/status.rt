@@ -44,7 +44,7 @@ pub fn default_reply(op: Op) -> FixedReply
 {
     match op {
         Op::Get | Op::Gets => FixedReply::Miss,
-        Op::Delete | Op::Touch => FixedReply::NotFound,
+        Op::Delete | Op::Touch | Op::Incr | Op::Decr => FixedReply::NotFound,
         Op::Set | Op::Add | Op::Replace | Op::Append | Op::Prepend | Op::Cas =>
             FixedReply::NotStored,
     }

@@ -15,13 +15,13 @@ use Rattle.mcv_session.specs.Exchange.{by_desk, by_version, by_quit, by_refusal,
 use Rattle.mcv_session.specs.Session.{Chain, Serves, taken, flow_after}
 
 abbrev get_a : AskValue
-get_a = record { op = ops.Get; keys = codes "a" ∷ []; flags = 0; exptime = pos 0; body = []; cas = None; noreply = false }
+get_a = record { op = ops.Get; keys = codes "a" ∷ []; flags = 0; exptime = pos 0; body = []; cas = None; delta = 0; noreply = false }
 
 abbrev get_a_b : AskValue
-get_a_b = record { op = ops.Get; keys = codes "a" ∷ codes "b" ∷ []; flags = 0; exptime = pos 0; body = []; cas = None; noreply = false }
+get_a_b = record { op = ops.Get; keys = codes "a" ∷ codes "b" ∷ []; flags = 0; exptime = pos 0; body = []; cas = None; delta = 0; noreply = false }
 
 abbrev silent : AskValue
-silent = record { op = ops.Delete; keys = codes "a" ∷ []; flags = 0; exptime = pos 0; body = []; cas = None; noreply = true }
+silent = record { op = ops.Delete; keys = codes "a" ∷ []; flags = 0; exptime = pos 0; body = []; cas = None; delta = 0; noreply = true }
 
 two_misses : text_of (by_desk get_a_b (Ok (miss ∷ miss ∷ []))) ≡ codes "END\r\n"
 two_misses = refl

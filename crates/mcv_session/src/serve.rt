@@ -13,8 +13,8 @@ use std::alloc::{AllocError, Global};
 use std::io::{ErrorKind, Read, Write};
 use thiserror::Error;
 
-/// The most reads of one session.
-const TURNS: u64 = 1_000_000_000;
+/// The most reads of one session: more than come.
+const TURNS: u64 = u64::MAX;
 
 /// The most bytes of one read.
 const PIECE: usize = 16384;
@@ -84,7 +84,7 @@ fn serve_piece<W: Write, D: Desk>(
 
 /// Serves a client: reads its bytes, asks the desk its requests in order, and writes the answers to all that one read
 /// gave with one write before the next read. The session ends at the end of its input, at quit, at refusal 2 or 3, at
-/// a fault, or, as a fault of the reader, after 1,000,000,000 reads.
+/// a fault, or, as a fault of the reader, after 2^64 - 1 reads.
 pub fn serve_session<R: Read, W: Write, D: Desk>(
     alloc: Global,
     reader: &mut R,

@@ -1,7 +1,8 @@
 //! A real file as a disk. No clause can say what a real file holds, so this type says nothing of the model:
 //! what is promised of a spool over it holds where the file keeps that model.
 
-ghost use Rattle.std.specs.Prelude.{◌≡◌, ◌↔◌, [], true, IsErr};
+ghost use Rattle.std.specs.Prelude.{◌≡◌, ◌↔◌, [], ◌∷◌, ◌++◌, if◌then◌else◌, nat_le, true, vec_capacity, vec_len, IsErr, OnErr, OnOk};
+ghost use Rattle.mcv_spool.specs.declared.file_disk.TheConstants.{RANGES};
 
 use crate::disk::{Disk, DiskFailed};
 use std::fs::{File, OpenOptions};
@@ -15,13 +16,19 @@ use std::path::Path;
 /// memory, while the disk has the old ones. So once a `sync` has failed, each later call answers `DiskFailed` and asks nothing
 /// of the system, until `renew` has written the bytes that aren't synced a second time: then the next sync speaks of them
 /// again. A new `FileDisk` trusts what it reads, and can't see that a sync of an earlier one had failed.
+///
+/// It takes memory where it is opened, and none later: so a call of it fails only where the system's did.
 #[derive(Drop)]
 pub struct FileDisk {
     file: File,
     sync_failed: bool,
-    /// Where something was written since the last sync that answered Ok: offsets and lengths.
+    /// Where something was written since the last sync that answered Ok: offsets and lengths, at most `RANGES`.
     unsynced: Vec<(usize, usize)>,
+    ghost room: { vec_capacity unsynced ≡ RANGES },
 }
+
+/// How many writes there are at most without a sync: the next one syncs first.
+const RANGES: usize = 1024;
 
 /// How many bytes are written a second time at once.
 const PART: usize = 1024;
@@ -33,6 +40,7 @@ impl FileDisk {
     /// file is closed, which dropping the `FileDisk` or the end of its process does. It binds those who ask for it, as
     /// each `FileDisk` does, and no other program.
     pub fn open(rt: &HostRuntime, path: &str) -> io::Result<FileDisk> {
+        let unsynced = Vec::with_capacity(rt.alloc(), RANGES)?;
         let file = OpenOptions::new()
             .read(true)
             .write(true)
@@ -45,7 +53,7 @@ impl FileDisk {
         Ok(FileDisk {
             file,
             sync_failed: false,
-            unsynced: Vec::new(rt.alloc()),
+            unsynced,
         })
     }
 
@@ -57,6 +65,35 @@ impl FileDisk {
             return Err(DiskFailed);
         }
         Ok(&self.file)
+    }
+
+    /// Syncs the file: nothing is unsynced then.
+    fn settle(&mut self) -> Result<(), DiskFailed>
+        ensures settled { OnOk result (self.new.unsynced.items ≡ []) }
+        ensures err { OnErr result (self.new.sync_failed ≡ true) }
+    {
+        match self.trusted_file()?.sync_data() {
+            Ok(()) => {
+                self.unsynced.clear();
+                Ok(())
+            }
+            Err(_) => {
+                self.sync_failed = true;
+                Err(DiskFailed)
+            }
+        }
+    }
+
+    /// Notes a write that is about to begin. Where there is no room for it all is synced first. An error is one of that sync.
+    fn note(&mut self, at: usize, len: usize) -> Result<(), DiskFailed>
+        ensures noted { OnOk result (self.new.unsynced.items ≡ (if nat_le RANGES (vec_len self.old.unsynced) then [] else self.old.unsynced.items) ++ (at, len) ∷ []) }
+        ensures err { OnErr result (self.new.sync_failed ≡ true) }
+    {
+        if self.unsynced.len() >= RANGES {
+            self.settle()?;
+        }
+        self.unsynced.push_reserved((at, len));
+        Ok(())
     }
 
     /// Writes the bytes of a range a second time, as far as they are still in the file.
@@ -122,9 +159,7 @@ impl Disk for FileDisk {
 
     fn write_at(&mut self, at: usize, bytes: &[u8]) -> Result<(), DiskFailed> {
         // Before the write, which may fail after a part of the bytes.
-        self.unsynced
-            .push((at, bytes.len()))
-            .map_err(|_| DiskFailed)?;
+        self.note(at, bytes.len())?;
         self.trusted_file()?
             .write_all_at(bytes, at as u64)
             .map_err(|_| DiskFailed)
@@ -137,16 +172,7 @@ impl Disk for FileDisk {
     }
 
     fn sync(&mut self) -> Result<(), DiskFailed> {
-        match self.trusted_file()?.sync_data() {
-            Ok(()) => {
-                self.unsynced.clear();
-                Ok(())
-            }
-            Err(_) => {
-                self.sync_failed = true;
-                Err(DiskFailed)
-            }
-        }
+        self.settle()
     }
 
     /// What isn't synced is written a second time: a crash may leave any bytes there already, so this adds nothing to what it

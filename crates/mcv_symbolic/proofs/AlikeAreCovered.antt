@@ -48,12 +48,12 @@ turned : (t : Tree) (rest other : List ℕ) → AreAlike t rest other → AreAli
 turned t rest other a = (a.0, a.2, a.1)
 
 pub alike_are_covered : AlikeAreCovered
-alike_are_covered sizes t rest other since a covered c o is r done x readable =
+alike_are_covered sizes t rest other since read a covered c o is r done x readable =
     let back = same t other rest Delete since (turned t rest other a) in
     let sent : IsSent t rest since c o x =
     covered c o is (same-reachable t (asked Delete other since) (asked Delete rest since) c o back r) (subst (λ answers. Has answers (λ b. b.outcome ≢ Error)) (back.replied o) done) x (
       readable.0,
       readable.1,
-      same-hits t (asked readable.0 other since) (asked readable.0 rest since) c x (same t other rest readable.0 since (turned t rest other a)) readable.2,
+      same-hits t (asked readable.0 other read) (asked readable.0 rest read) c x (same t other rest readable.0 read (turned t rest other a)) readable.2,
     ) in
     subst (λ ls. Has ls (λ l. (l.server.0 ≡ x) × (is_counting l.mark ≡ true))) ((same t rest other Delete since a).sent c o) sent

@@ -1,5 +1,5 @@
 -- Coverage of all rests by a member of each class.
-use Rattle.std.proofs.Common.{◌≡◌, ◌<◌, inl, inr, ℕ, true, List, [], ◌∷◌, length, map, Some, option_map, nat_eq, refl, sym, ap, ◌∙◌, subst, arith}
+use Rattle.std.proofs.Common.{◌≡◌, ◌<◌, ◌≤◌, inl, inr, ℕ, true, List, [], ◌∷◌, length, map, Option, Some, option_map, nat_eq, refl, sym, ap, ◌∙◌, subst, arith}
 use Rattle.std.specs.Prelude.{slice_get}
 use Rattle.std.specs.List.{All, Contains}
 use Rattle.std.proofs.lemmas.List.{length-map}
@@ -8,14 +8,17 @@ use Rattle.std.proofs.lemmas.Bool.{and_from, and_parts, eqb-true, false≢true}
 use Rattle.std.proofs.lemmas.Option.{none-some, slice_get_cases}
 use Rattle.mcv_base.specs.Key.{IsRest, begins_with, is_key_byte, is_key_word}
 use Rattle.mcv_pools.specs.Symbol.{SymbolValue}
+use Rattle.mcv_route.specs.Eras.{IsNear}
 use Rattle.mcv_route.specs.Routes.{IsSoundTree, AreSoundTrees, IsSoundRoutes, RouteEntry, RoutesValue}
 use Rattle.mcv_route.specs.Tree.{Tree, Trees, pool, null, error, many, warm_up, migrate, prefix_selector, operation_selector, none, child}
+use Rattle.mcv_route.specs.Verdict.{IsCovered}
 use Rattle.mcv_route.specs.WellFormedTrees.{IsWellFormed, AreWellFormed}
+use Rattle.mcv_route.proofs.NearBreaks.{near_grows, near_itself}
 use Rattle.mcv_classes.specs.Class.{IsClassWord, IsMember}
 use Rattle.mcv_classes.specs.Words.{class_words}
 use Rattle.mcv_classes.proofs.Existence.{rests_have_classes}
 use Rattle.mcv_classes.proofs.Members.{members_are_inside}
-use Rattle.mcv_symbolic.specs.CoveredRoutes.{CoveredByMembers, sizes_of}
+use Rattle.mcv_symbolic.specs.CoveredRoutes.{CoveredByMembers, CoveredForLess, CoveredInOneEra, sizes_of}
 use Rattle.mcv_symbolic.proofs.AlikeAreCovered.{alike_are_covered}
 use Rattle.mcv_symbolic.proofs.StructureBySets.{covered_is_justified}
 
@@ -70,11 +73,28 @@ member-rest words rest (w ∷ word) member h c m = subst IsRest (sym m.0) (recor
 
 pub covered_by_members : CoveredByMembers
 covered_by_members r sound = (
-  λ covered e word member since at listed m rest era. (covered_is_justified (sizes_of r) e.tree member since (entry-formed r e sound at)).0 (covered e member since at rest era),
-  λ justified e rest since at h era.
+  λ covered e word member since read at listed m rest era other near.
+      (covered_is_justified (sizes_of r) e.tree member since read (entry-formed r e sound at)).0 (covered e member since read at rest era other near),
+  λ justified e rest since read at h era other near.
       let class = rests_have_classes e.tree rest h.key h.bytes in
       let inside = members_are_inside e.tree class.0 class.1 class.3 class.2.listed in
       let own = member-rest (class_words e.tree) rest class.0 class.1 h class.2 class.3 in
-      let covered = (covered_is_justified (sizes_of r) e.tree class.1 since (entry-formed r e sound at)).1 (justified e class.0 class.1 since at class.2.listed class.3 own era) in
-      alike_are_covered (sizes_of r) e.tree class.1 rest since (class.0, inside.0, class.2) covered,
+      let covered = (covered_is_justified (sizes_of r) e.tree class.1 since read (entry-formed r e sound at)).1 (justified e class.0 class.1 since read at class.2.listed class.3 own era other near) in
+      alike_are_covered (sizes_of r) e.tree class.1 rest since read (class.0, inside.0, class.2) covered,
+)
+
+-- ---- windows
+
+pub covered_for_less : CoveredForLess
+covered_for_less r v le covered e rest since read at h era other near = covered e rest since read at h era other (near_wider r v le since read near)
+  where
+    near_wider : (r : RoutesValue) (v : ℕ) → v ≤ r.window → (since read : Option ℕ) → IsNear r v since read → IsNear r r.window since read
+    near_wider r v le since read near = (near_grows r v r.window since read).1 le near
+
+pub covered_in_one_era : CoveredInOneEra
+covered_in_one_era r at_zero = (
+  λ covered e rest since at h era. covered e rest since since at h era era (near_itself r r.window since),
+  λ each e rest since read at h era other near.
+      let same = (near_grows r 0 0 since read).0 (subst (λ w. IsNear r w since read) at_zero near) in
+      subst (IsCovered (sizes_of r) e.tree rest since) same (each e rest since at h era),
 )

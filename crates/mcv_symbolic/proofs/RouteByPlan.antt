@@ -1,6 +1,7 @@
 -- What holds of the plan holds of the route: replies, hits and coverage.
 use Rattle.std.proofs.Common.{◌≡◌, ◌≢◌, ◌↔◌, inl, inr, ⊎_elim, ℕ, true, List, [], ◌∷◌, Option, Some, None, refl, sym, ap, ◌∙◌}
-use Rattle.mcv_base.specs.declared.operation.Op.TheVariants.{Get, Gets, Delete}
+use Rattle.mcv_base.specs.declared.operation.Op.{Op}
+use Rattle.mcv_base.specs.declared.operation.Op.TheVariants.{Delete}
 use Rattle.mcv_base.specs.Operation.{is_counting}
 use Rattle.mcv_base.specs.declared.reply.Outcome.{Outcome}
 use Rattle.mcv_base.specs.declared.reply.Outcome.TheVariants.{Error}
@@ -9,7 +10,6 @@ use Rattle.mcv_route.specs.Tree.{Tree}
 use Rattle.mcv_route.specs.WellFormedTrees.{IsWellFormed}
 use Rattle.mcv_route.specs.Situation.{Situation, asked}
 use Rattle.mcv_route.specs.Replies.{Answer, outcome_of, replies}
-use Rattle.mcv_route.proofs.Readings.{get_or_gets}
 use Rattle.mcv_route.specs.Verdict.{Has, IsHit, CanHit, IsSent, IsDone, IsCovered}
 use Rattle.mcv_rules.specs.Plan.{Leg, Plan, Send, Reply, Both, Beside, OnError, OnMiss, OnHit, Shadowed, HitAt, server}
 use Rattle.mcv_rules.specs.Plans.{plan}
@@ -79,21 +79,25 @@ sent_planned t rest since c o x h =
 planned_sent : (t : Tree) (rest : List ℕ) (since : Option ℕ) (c : Choice) (o : Outcomes) (x : ℕ) → plans.IsSent (plan t (asked Delete rest since)) c o x → IsSent t rest since c o x
 planned_sent t rest since c o x h = Verdicts.sends_has t (asked Delete rest since) c o (λ l. (l.server.0 ≡ x) × (is_counting l.mark ≡ true)) h.0 h.1 (h.3, h.2)
 
+-- what the route does when it is asked for an operation
+abbrev pub reading : Tree → List ℕ → Option ℕ → Op → Plan
+reading t rest since op = plan t (asked op rest since)
+
 -- coverage by handle is that of the plans
-covered_planned : (sizes : List ℕ) (t : Tree) (rest : List ℕ) (since : Option ℕ) → IsWellFormed sizes t →
-    IsCovered sizes t rest since ↔ plans.IsCovered sizes (plan t (asked Get rest since)) (plan t (asked Gets rest since)) (plan t (asked Delete rest since))
-covered_planned sizes t rest since w = (
-  λ h c o i r d x q. sent_planned t rest since c o x (h c o i (Verdicts.planned_reachable t (asked Delete rest since) c o r) (planned_done t rest since o d) x
-      (⊎_elim (λ g. (Get, refl, planned_can t (asked Get rest since) c x g)) (λ g. (Gets, refl, planned_can t (asked Gets rest since) c x g)) q)),
+covered_planned : (sizes : List ℕ) (t : Tree) (rest : List ℕ) (since read : Option ℕ) → IsWellFormed sizes t →
+    IsCovered sizes t rest since read ↔ plans.IsCovered sizes (reading t rest read) (plan t (asked Delete rest since))
+covered_planned sizes t rest since read w = (
+  λ h c o i r d x op shows g. sent_planned t rest since c o x (h c o i (Verdicts.planned_reachable t (asked Delete rest since) c o r) (planned_done t rest since o d) x
+      (op, shows, planned_can t (asked op rest read) c x g)),
   λ h c o i r d x q. planned_sent t rest since c o x (h c o i (Verdicts.reachable_planned t (asked Delete rest since) c o r) (done_planned t rest since o d) x
-      (get_or_gets (λ op. plans.IsReadable (plan t (asked op rest since)) c x) q.0 q.1 (can_planned t (asked q.0 rest since) c x (PlansAreSound.plan_sound sizes t q.0 rest since w).2 q.2))),
+      q.0 q.1 (can_planned t (asked q.0 rest read) c x (PlansAreSound.plan_sound sizes t q.0 rest read w).2 q.2)),
 )
 
 -- coverage is the comparison of the plans
-pub covered_by_plans : (sizes : List ℕ) (t : Tree) (rest : List ℕ) (since : Option ℕ) → IsWellFormed sizes t →
-    IsCovered sizes t rest since ↔ IsJustified sizes (plan t (asked Get rest since)) (plan t (asked Gets rest since)) (plan t (asked Delete rest since))
-covered_by_plans sizes t rest since w =
-    let here = covered_planned sizes t rest since w in
-    let there = plans.covered_on_plans sizes (plan t (asked Get rest since)) (plan t (asked Gets rest since)) (plan t (asked Delete rest since))
-    (PlansAreSound.plan_sound sizes t Get rest since w) (PlansAreSound.plan_sound sizes t Gets rest since w) (PlansAreSound.plan_sound sizes t Delete rest since w) (PlansAreSound.plan_for_delete sizes t rest since w) in
+pub covered_by_plans : (sizes : List ℕ) (t : Tree) (rest : List ℕ) (since read : Option ℕ) → IsWellFormed sizes t →
+    IsCovered sizes t rest since read ↔ IsJustified sizes (reading t rest read) (plan t (asked Delete rest since))
+covered_by_plans sizes t rest since read w =
+    let here = covered_planned sizes t rest since read w in
+    let there = plans.covered_on_plans sizes (reading t rest read) (plan t (asked Delete rest since))
+    (λ op. PlansAreSound.plan_sound sizes t op rest read w) (PlansAreSound.plan_sound sizes t Delete rest since w) (PlansAreSound.plan_for_delete sizes t rest since w) in
     (λ h. there.0 (here.0 h), λ h. here.1 (there.1 h))

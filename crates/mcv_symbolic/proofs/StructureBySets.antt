@@ -1,13 +1,14 @@
 -- What holds of plans by their structure, said by the sets.
-use Rattle.std.proofs.Common.{◌≡◌, ◌≢◌, ◌⊎◌, inl, inr, ℕ, ◌<◌, ◌≤◌, List, [], length, arith, Option, Some, refl, sym, ap, ◌∙◌, subst}
+use Rattle.std.proofs.Common.{◌≡◌, ◌≢◌, ◌⊎◌, inl, inr, ℕ, ◌<◌, ◌≤◌, true, List, [], length, arith, Option, Some, refl, sym, ap, ◌∙◌, subst}
 use Rattle.std.specs.Prelude.{slice_index}
 use Rattle.std.proofs.lemmas.Bool.{cases_lt}
 use Rattle.std.proofs.lemmas.Option.{same_Some}
 use Rattle.mcv_base.specs.declared.operation.Mark.TheVariants.{Plain}
-use Rattle.mcv_base.specs.declared.operation.Op.TheVariants.{Get, Gets, Delete}
+use Rattle.mcv_base.specs.Operation.{shows_value}
+use Rattle.mcv_base.specs.declared.operation.Op.{Op}
+use Rattle.mcv_base.specs.declared.operation.Op.TheVariants.{Get, Delete}
 use Rattle.mcv_base.specs.declared.reply.Outcome.TheVariants.{Good, Error}
 use Rattle.mcv_symbolic.specs.Sets.{CanHitAt}
-use Rattle.mcv_route.proofs.Readings.{get_or_gets}
 use Rattle.mcv_route.specs.Outcomes.{Choice}
 use Rattle.mcv_route.specs.Places.{pool_at_position}
 use Rattle.mcv_route.specs.Situation.{asked}
@@ -24,7 +25,7 @@ use Rattle.mcv_symbolic.proofs.Exactness.{acknowledged_is_exact, done_is_exact, 
 use Rattle.mcv_symbolic.proofs.Marks
 use Rattle.mcv_symbolic.proofs.JustifiedPlans as plans
 use Rattle.mcv_symbolic.proofs.PoolOfLeg.{leaf_of, acknowledged_are_there, hits_are_there}
-use Rattle.mcv_symbolic.proofs.RouteByPlan.{covered_by_plans}
+use Rattle.mcv_symbolic.proofs.RouteByPlan.{covered_by_plans, reading}
 use Rattle.mcv_symbolic.proofs.Symbols
 
 any_choice : Choice
@@ -82,33 +83,31 @@ module _ (sizes : List ℕ) (t : Tree) (rest : List ℕ) (since : Option ℕ) wh
         | inr ne ↦ absurd (never any_choice ((done_is_exact t rest since any_choice).1 ne))
       ]
 
-  abbrev CanRead : Leg → Type 0
-  CanRead l = Hits (plan t (asked Get rest since)) l ⊎ Hits (plan t (asked Gets rest since)) l
+  module _ (read : Option ℕ) where
+    abbrev CanRead : Leg → Type 0
+    CanRead l = (op : Op) × (shows_value op ≡ true) × Hits (reading t rest read op) l
 
-  readable-leg : (p : List ℕ) (leaf : Pool) → IsReadableAt t rest since p → pool_at_position t p ≡ Some leaf → (l : Leg) × CanRead l × (leaf_of l ≡ leaf)
-  readable-leg p leaf h at =
-      elim (get_or_gets (λ op. CanHitAt t (asked op rest since) h.2 p) h.0 h.1 h.3) [
-        | inl g ↦ let k = (hits_are_exact t Get rest since h.2 p).0 g in (k.0, inl k.1, same_Some (leaf_of k.0) leaf (sym (hits_are_there t (asked Get rest since) k.0 refl k.1) ∙ ap (pool_at_position t) k.2 ∙ at))
-        | inr g ↦ let k = (hits_are_exact t Gets rest since h.2 p).0 g in (k.0, inr k.1, same_Some (leaf_of k.0) leaf (sym (hits_are_there t (asked Gets rest since) k.0 refl k.1) ∙ ap (pool_at_position t) k.2 ∙ at))
-      ]
+    readable-leg : (p : List ℕ) (leaf : Pool) → IsReadableAt t rest read p → pool_at_position t p ≡ Some leaf → (l : Leg) × CanRead l × (leaf_of l ≡ leaf)
+    readable-leg p leaf h at =
+        let k = (hits_are_exact t h.0 rest read h.2 p).0 h.3 in
+        (k.0, (h.0, h.1, k.1), same_Some (leaf_of k.0) leaf (sym (hits_are_there t (asked h.0 rest read) k.0 refl k.1) ∙ ap (pool_at_position t) k.2 ∙ at))
 
-  leg-readable : (l : Leg) → CanRead l → IsReadableAt t rest since l.position × (pool_at_position t l.position ≡ Some (leaf_of l))
-  leg-readable l (inl g) = ((Get, refl, any_choice, (hits_are_exact t Get rest since any_choice l.position).1 (l, g, refl)), hits_are_there t (asked Get rest since) l refl g)
-  leg-readable l (inr g) = ((Gets, refl, any_choice, (hits_are_exact t Gets rest since any_choice l.position).1 (l, g, refl)), hits_are_there t (asked Gets rest since) l refl g)
+    leg-readable : (l : Leg) → CanRead l → IsReadableAt t rest read l.position × (pool_at_position t l.position ≡ Some (leaf_of l))
+    leg-readable l g = ((g.0, g.1, any_choice, (hits_are_exact t g.0 rest read any_choice l.position).1 (l, g.2, refl)), hits_are_there t (asked g.0 rest read) l refl g.2)
 
-  abbrev IsJustifiedByPlans : Type 0
-  IsJustifiedByPlans = plans.IsJustified sizes (plan t (asked Get rest since)) (plan t (asked Gets rest since)) delete
+    abbrev IsJustifiedByPlans : Type 0
+    IsJustifiedByPlans = plans.IsJustified sizes (reading t rest read) delete
 
-  justified-sets : IsJustifiedByPlans → sets.IsJustified sizes t rest since
-  justified-sets (inl e) = inl (never-sets e)
-  justified-sets (inr all) = inr (λ p leaf i read at lt.
-      let l = readable-leg p leaf read at in
-      let size : i < slice_index sizes l.0.symbol = subst (λ q. i < slice_index sizes q.symbol) (sym l.2) lt in
-      subst (λ q. sets.IsAnswered sizes t rest since q i) l.2 (answered-sets l.0 i (all l.0 i l.1 size)))
+    justified-sets : IsJustifiedByPlans → sets.IsJustified sizes t rest since read
+    justified-sets (inl e) = inl (never-sets e)
+    justified-sets (inr all) = inr (λ p leaf i readable at lt.
+        let l = readable-leg p leaf readable at in
+        let size : i < slice_index sizes l.0.symbol = subst (λ q. i < slice_index sizes q.symbol) (sym l.2) lt in
+        subst (λ q. sets.IsAnswered sizes t rest since q i) l.2 (answered-sets l.0 i (all l.0 i l.1.0 l.1.1 l.1.2 size)))
 
-  justified-plans : sets.IsJustified sizes t rest since → IsJustifiedByPlans
-  justified-plans (inl never) = inl (never-plans never)
-  justified-plans (inr all) = inr (λ l i read lt. let k = leg-readable l read in answered-plans l i (all l.position (leaf_of l) i k.0 k.1 lt))
+    justified-plans : sets.IsJustified sizes t rest since read → IsJustifiedByPlans
+    justified-plans (inl never) = inl (never-plans never)
+    justified-plans (inr all) = inr (λ l i op shows hit lt. let k = leg-readable l (op, shows, hit) in answered-plans l i (all l.position (leaf_of l) i k.0 k.1 lt))
 
 -- ---- one choice, and each symbol by itself
 
@@ -157,6 +156,6 @@ symbols_are_independent sizes t rest since leaf i w size lt =
     )
 
 pub covered_is_justified : CoveredIsJustified
-covered_is_justified sizes t rest since w =
-    let law = covered_by_plans sizes t rest since w in
-    (λ h. justified-sets sizes t rest since (law.0 h), λ h. law.1 (justified-plans sizes t rest since h))
+covered_is_justified sizes t rest since read w =
+    let law = covered_by_plans sizes t rest since read w in
+    (λ h. justified-sets sizes t rest since read (law.0 h), λ h. law.1 (justified-plans sizes t rest since read h))

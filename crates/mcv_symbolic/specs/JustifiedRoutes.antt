@@ -1,6 +1,6 @@
--- When a route is covered at a rest in an era, said by the sets alone (own).
+-- When a route is covered at a rest, of a delete in one era and a get in another, said by the sets alone (own).
 use Rattle.std.specs.Prelude.{◌≡◌, ◌≢◌, ◌⊎◌, ◌↔◌, ◌<◌, ℕ, true, List, Option, Some, length, slice_index}
-use Rattle.mcv_base.specs.Operation.{is_reading}
+use Rattle.mcv_base.specs.Operation.{shows_value}
 use Rattle.mcv_base.specs.declared.operation.Op.{Op}
 use Rattle.mcv_route.specs.Outcomes.{Choice, IsChoice}
 use Rattle.mcv_route.specs.Places.{pool_at_position}
@@ -9,9 +9,9 @@ use Rattle.mcv_route.specs.Tree.{Pool, Tree}
 use Rattle.mcv_route.specs.WellFormedTrees.{IsWellFormed}
 use Rattle.mcv_symbolic.specs.Sets.{CanHitAt, CanBeAcknowledged, IsAcknowledged}
 
--- an operation that reads can be answered from the position
+-- an operation whose answer shows the value can be answered from the position
 abbrev pub IsReadableAt : Tree → List ℕ → Option ℕ → List ℕ → Type 0
-IsReadableAt t rest since p = (op : Op) × (is_reading op ≡ true) × (c : Choice) × CanHitAt t (asked op rest since) c p
+IsReadableAt t rest since p = (op : Op) × (shows_value op ≡ true) × (c : Choice) × CanHitAt t (asked op rest since) c p
 
 -- no delete can be acknowledged
 abbrev pub IsNeverAcknowledged : Tree → List ℕ → Option ℕ → Type 0
@@ -48,8 +48,8 @@ abbrev pub SymbolsAreIndependent : Type 0
 SymbolsAreIndependent = (sizes : List ℕ) (t : Tree) (rest : List ℕ) (since : Option ℕ) (leaf : Pool) (i : ℕ) → IsWellFormed sizes t → leaf.symbol < length sizes → i < slice_index sizes leaf.symbol →
     (IsAlwaysAnswered sizes t rest since leaf i ↔ IsAnswered sizes t rest since leaf i) × (IsEverMissed sizes t rest since leaf i ↔ IsMissedByEach sizes t rest since leaf i)
 
--- no delete can be acknowledged, or every pool that can be read is answered for at every index
-abbrev pub IsJustified : List ℕ → Tree → List ℕ → Option ℕ → Type 0
-IsJustified sizes t rest since =
+-- in the one era no delete can be acknowledged, or every pool that can be read in the other is answered for at every index
+abbrev pub IsJustified : List ℕ → Tree → List ℕ → (since read : Option ℕ) → Type 0
+IsJustified sizes t rest since read =
     IsNeverAcknowledged t rest since
-    ⊎ ((p : List ℕ) (leaf : Pool) (i : ℕ) → IsReadableAt t rest since p → pool_at_position t p ≡ Some leaf → i < slice_index sizes leaf.symbol → IsAnswered sizes t rest since leaf i)
+    ⊎ ((p : List ℕ) (leaf : Pool) (i : ℕ) → IsReadableAt t rest read p → pool_at_position t p ≡ Some leaf → i < slice_index sizes leaf.symbol → IsAnswered sizes t rest since leaf i)

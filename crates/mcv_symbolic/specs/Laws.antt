@@ -53,8 +53,8 @@ AcknowledgedIsLeast = (t : Tree) (rest : List ℕ) (since : Option ℕ) (c : Cho
 -- ---- coverage
 
 abbrev pub CoveredIsJustified : Type 0
-CoveredIsJustified = (sizes : List ℕ) (t : Tree) (rest : List ℕ) (since : Option ℕ) → IsWellFormed sizes t → IsCovered sizes t rest since ↔ IsJustified sizes t rest since
+CoveredIsJustified = (sizes : List ℕ) (t : Tree) (rest : List ℕ) (since read : Option ℕ) → IsWellFormed sizes t → IsCovered sizes t rest since read ↔ IsJustified sizes t rest since read
 
 -- a class is covered where one of its rests is
 abbrev pub AlikeAreCovered : Type 0
-AlikeAreCovered = (sizes : List ℕ) (t : Tree) (rest other : List ℕ) (since : Option ℕ) → AreAlike t rest other → IsCovered sizes t rest since → IsCovered sizes t other since
+AlikeAreCovered = (sizes : List ℕ) (t : Tree) (rest other : List ℕ) (since read : Option ℕ) → AreAlike t rest other → IsCovered sizes t rest since read → IsCovered sizes t other since read

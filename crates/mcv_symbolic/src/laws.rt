@@ -1,6 +1,6 @@
 //! The laws by which finitely many comparisons decide coverage. They hold of the definitions alone.
 
-ghost use Rattle.mcv_symbolic.specs.CoveredRoutes.{CoveredByMembers};
+ghost use Rattle.mcv_symbolic.specs.CoveredRoutes.{CoveredByMembers, CoveredForLess, CoveredInOneEra};
 ghost use Rattle.mcv_symbolic.specs.JustifiedRoutes.{SymbolsAreIndependent};
 ghost use Rattle.mcv_symbolic.specs.Laws.{AcknowledgedIgnoresTheChoice, AcknowledgedIsExact, AcknowledgedIsLeast, AlikeAreCovered, CoveredIsJustified, DoneIgnoresTheChoice, DoneIsExact, HitsAreExact, HitsIgnoreTheChoice};
 
@@ -28,8 +28,11 @@ pub fn symbols_are_independent()
 
 /// A route is covered at a rest exactly when a delete can't be acknowledged, or each leaf that can be read is answered
 /// for at each index; a whole class is where one of its rests is; so all rests are where a member of each class is.
+/// What is covered for a time is for less; for no time, in each era by itself.
 pub fn covered_is_justified()
     ensures justified { CoveredIsJustified }
     ensures class { AlikeAreCovered }
     ensures members { CoveredByMembers }
+    ensures less { CoveredForLess }
+    ensures one { CoveredInOneEra }
 {}

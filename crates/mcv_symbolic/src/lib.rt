@@ -1,4 +1,4 @@
-//! What the checker compares: for a route, a class of rests and an era, the positions from which a get can
+//! What the checker compares: for a route, a class of rests and an era, the positions from which an operation can
 //! be answered and those to which every delete that has a reply has been sent.
 //!
 //! The definitions (`specs/Sets.antt`) speak of all outcomes that can come and of one choice. The laws say

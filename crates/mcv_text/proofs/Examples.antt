@@ -3,7 +3,7 @@ use Rattle.std.proofs.Common.{◌≡◌, ◌≢◌, [], ◌∷◌, true, false, 
 use Rattle.std.specs.Prelude.{pos, negsuc}
 use Rattle.std.proofs.lemmas.List.Elements.{All-from_recursion}
 use Rattle.mcv_base.specs.declared.operation.Op.TheVariants as ops
-use Rattle.mcv_base.specs.Reply.{hit, miss, deleted, fault}
+use Rattle.mcv_base.specs.Reply.{hit, miss, deleted, not_found, fault}
 use Rattle.mcv_text.specs.declared.item.Refusal.TheVariants as refusals
 use Rattle.mcv_text.specs.Request.{AskValue, asking, version, refused}
 use Rattle.mcv_text.specs.Words.{line_words, number32_said, signed_said}
@@ -33,7 +33,7 @@ minus_zero = refl
 plus_sign : signed_said (codes "+1") ≡ None
 plus_sign = refl
 
-delete_with_zero : meaning (codes "delete /././a 0 noreply\r") ≡ whole (asking (record { op = ops.Delete; keys = codes "/././a" ∷ []; flags = 0; exptime = pos 0; body = []; cas = None; noreply = true }))
+delete_with_zero : meaning (codes "delete /././a 0 noreply\r") ≡ whole (asking (record { op = ops.Delete; keys = codes "/././a" ∷ []; flags = 0; exptime = pos 0; body = []; cas = None; delta = 0; noreply = true }))
 unfolding meaning
 delete_with_zero = refl
 
@@ -41,11 +41,11 @@ zero_behind_noreply : meaning (codes "delete a noreply 0") ≡ bad
 unfolding meaning
 zero_behind_noreply = refl
 
-set_line : meaning (codes "set /././k 05 0 1") ≡ stores (record { op = ops.Set; keys = codes "/././k" ∷ []; flags = 5; exptime = pos 0; body = []; cas = None; noreply = false }) 1
+set_line : meaning (codes "set /././k 05 0 1") ≡ stores (record { op = ops.Set; keys = codes "/././k" ∷ []; flags = 5; exptime = pos 0; body = []; cas = None; delta = 0; noreply = false }) 1
 unfolding meaning
 set_line = refl
 
-cas_line : meaning (codes "cas k 1 -1 2 7 noreply") ≡ stores (record { op = ops.Cas; keys = codes "k" ∷ []; flags = 1; exptime = negsuc 0; body = []; cas = Some 7; noreply = true }) 2
+cas_line : meaning (codes "cas k 1 -1 2 7 noreply") ≡ stores (record { op = ops.Cas; keys = codes "k" ∷ []; flags = 1; exptime = negsuc 0; body = []; cas = Some 7; delta = 0; noreply = true }) 2
 unfolding meaning
 cas_line = refl
 
@@ -57,7 +57,19 @@ no_word : meaning [] ≡ unknown
 unfolding meaning
 no_word = refl
 
-left_out : meaning (codes "incr a 1") ≡ unknown
+incr_line : meaning (codes "incr /././k 05") ≡ whole (asking (record { op = ops.Incr; keys = codes "/././k" ∷ []; flags = 0; exptime = pos 0; body = []; cas = None; delta = 5; noreply = false }))
+unfolding meaning
+incr_line = refl
+
+decr_without_an_answer : meaning (codes "decr k 18446744073709551615 noreply") ≡ whole (asking (record { op = ops.Decr; keys = codes "k" ∷ []; flags = 0; exptime = pos 0; body = []; cas = None; delta = 18446744073709551615; noreply = true }))
+unfolding meaning
+decr_without_an_answer = refl
+
+delta_beyond_64_bits : meaning (codes "incr k 18446744073709551616") ≡ bad
+unfolding meaning
+delta_beyond_64_bits = refl
+
+left_out : meaning (codes "gat 0 a") ≡ unknown
 unfolding meaning
 left_out = refl
 
@@ -96,14 +108,17 @@ wrong_end ask = no_lf (codes "x") [] 121 refl (λ e. omega arith) refl
 
 -- answers
 
-hits_and_end : reply_text (asking (record { op = ops.Get; keys = codes "/././a" ∷ codes "b" ∷ []; flags = 0; exptime = pos 0; body = []; cas = None; noreply = false })) (miss ∷ miss ∷ []) ≡ codes "END\r\n"
+hits_and_end : reply_text (asking (record { op = ops.Get; keys = codes "/././a" ∷ codes "b" ∷ []; flags = 0; exptime = pos 0; body = []; cas = None; delta = 0; noreply = false })) (miss ∷ miss ∷ []) ≡ codes "END\r\n"
 hits_and_end = refl
 
-error_alone : reply_text (asking (record { op = ops.Get; keys = codes "a" ∷ codes "b" ∷ []; flags = 0; exptime = pos 0; body = []; cas = None; noreply = false })) (hit 0 None (codes "x") ∷ fault (codes "ERROR") ∷ []) ≡ codes "ERROR\r\n"
+error_alone : reply_text (asking (record { op = ops.Get; keys = codes "a" ∷ codes "b" ∷ []; flags = 0; exptime = pos 0; body = []; cas = None; delta = 0; noreply = false })) (hit 0 None (codes "x") ∷ fault (codes "ERROR") ∷ []) ≡ codes "ERROR\r\n"
 error_alone = refl
 
-one_line : reply_text (asking (record { op = ops.Delete; keys = codes "a" ∷ []; flags = 0; exptime = pos 0; body = []; cas = None; noreply = false })) (deleted ∷ []) ≡ codes "DELETED\r\n"
+one_line : reply_text (asking (record { op = ops.Delete; keys = codes "a" ∷ []; flags = 0; exptime = pos 0; body = []; cas = None; delta = 0; noreply = false })) (deleted ∷ []) ≡ codes "DELETED\r\n"
 one_line = refl
+
+nothing_to_adjust : reply_text (asking (record { op = ops.Incr; keys = codes "k" ∷ []; flags = 0; exptime = pos 0; body = []; cas = None; delta = 5; noreply = false })) (not_found ∷ []) ≡ codes "NOT_FOUND\r\n"
+nothing_to_adjust = refl
 
 own_version : reply_text version [] ≡ codes "VERSION mcv 1\r\n"
 own_version = refl

@@ -18,10 +18,10 @@ use Rattle.mcv_base.specs.Operation.{op_name}
 use Rattle.mcv_base.specs.Key.{is_key_word, is_key_byte}
 use Rattle.mcv_text.specs.Request.{AskValue, asking, ItemValue, asked, with_body}
 use Rattle.mcv_text.specs.Words.{is_space, words, number_said, number32_said, number64_said, signed_said, IsNumber}
-use Rattle.mcv_text.specs.Line.{LineValue, whole, stores, bad, too_large, value_limit, reads, plain, storing, storing_said, cas_said, said, meaning}
+use Rattle.mcv_text.specs.Line.{LineValue, whole, stores, bad, too_large, value_limit, reads, plain, storing, storing_said, cas_said, adjusting_said, said, meaning}
 use Rattle.mcv_text.specs.Stream.{Held, IsLine, by_line, AfterLine, stored, in_line, Reads}
 use Rattle.mcv_text.specs.Answer.{line_end}
-use Rattle.mcv_text.specs.Leg.{LegValue, leg_text, leg_ask, IsWholeLeg, IsBare, IsStoring, IsCas, IsTouch, IsSigned64, HasFields}
+use Rattle.mcv_text.specs.Leg.{LegValue, leg_text, leg_ask, IsWholeLeg, IsBare, IsStoring, IsCas, IsTouch, IsAdjusting, IsSigned64, HasFields}
 use Rattle.mcv_text.proofs.Numbers.{number_is}
 
 -- a word of a leg: 1 to 250 bytes, none of them a space or below
@@ -148,19 +148,19 @@ key_word word e =
     let more = and_parts (leb (length word) 250) (list_all is_key_byte word) both.1 in
     record { some = ltb-true 0 (length word) both.0; short = leb-true (length word) 250 more.0; bare = All-from_recursion (λ b. 33 ≤ b) word (key_bytes word more.1) }
 
-abbrev ask_of : Op → List ℕ → ℕ → ℤ → List ℕ → Option ℕ → AskValue
-ask_of op rest f e body cas = record { op = op; keys = rest ∷ []; flags = f; exptime = e; body = body; cas = cas; noreply = false }
+abbrev ask_of : Op → List ℕ → ℕ → ℤ → List ℕ → Option ℕ → ℕ → AskValue
+ask_of op rest f e body cas d = record { op = op; keys = rest ∷ []; flags = f; exptime = e; body = body; cas = cas; delta = d; noreply = false }
 
-abbrev leg_of : Op → List ℕ → ℕ → ℤ → List ℕ → Option ℕ → LegValue
-leg_of op rest f e body cas = record { op = op; rest = rest; flags = f; exptime = e; body = body; cas = cas }
+abbrev leg_of : Op → List ℕ → ℕ → ℤ → List ℕ → Option ℕ → ℕ → LegValue
+leg_of op rest f e body cas d = record { op = op; rest = rest; flags = f; exptime = e; body = body; cas = cas; delta = d }
 
-plain_key : (op : Op) (rest : List ℕ) (e : ℤ) → is_key_word rest ≡ true → plain op (rest ∷ []) e false ≡ whole (asking (ask_of op rest 0 e [] None))
-plain_key op rest e key = ap (λ t. cond (t && true) (whole (asking (ask_of op rest 0 e [] None))) bad) key
+plain_key : (op : Op) (rest : List ℕ) (e : ℤ) (d : ℕ) → is_key_word rest ≡ true → plain op (rest ∷ []) e d false ≡ whole (asking (ask_of op rest 0 e [] None d))
+plain_key op rest e d key = ap (λ t. cond (t && true) (whole (asking (ask_of op rest 0 e [] None d))) bad) key
 
-storing_key : (op : Op) (rest : List ℕ) (f : ℕ) (e : ℤ) (n : ℕ) (cas : Option ℕ) → is_key_word rest ≡ true → n ≤ 1048576 → storing op rest f e n cas false ≡ stores (ask_of op rest f e [] cas) n
+storing_key : (op : Op) (rest : List ℕ) (f : ℕ) (e : ℤ) (n : ℕ) (cas : Option ℕ) → is_key_word rest ≡ true → n ≤ 1048576 → storing op rest f e n cas false ≡ stores (ask_of op rest f e [] cas 0) n
 storing_key op rest f e n cas key l =
-    ap (λ t. cond t (cond (ltb value_limit n) (too_large n) (stores (ask_of op rest f e [] cas) n)) bad) key
-    ∙ ap (λ t. cond t (too_large n) (stores (ask_of op rest f e [] cas) n)) (le-ltb value_limit n l)
+    ap (λ t. cond t (cond (ltb value_limit n) (too_large n) (stores (ask_of op rest f e [] cas 0) n)) bad) key
+    ∙ ap (λ t. cond t (too_large n) (stores (ask_of op rest f e [] cas 0) n)) (le-ltb value_limit n l)
 
 storing_words : (op : Op) (rest F E N : List ℕ) (f : ℕ) (e : ℤ) (n : ℕ) → number32_said F ≡ Some f → signed_said E ≡ Some e → number32_said N ≡ Some n → storing_said op (rest ∷ F ∷ E ∷ N ∷ []) ≡ storing op rest f e n None false
 storing_words op rest F E N f e n ef ee en =
@@ -206,73 +206,89 @@ name_word ops.Prepend = record { some = omega arith; short = omega arith; bare =
 name_word ops.Cas = record { some = omega arith; short = omega arith; bare = All-from_recursion (λ b. 33 ≤ b) (codes "cas") (omega arith, (omega arith, (omega arith, tt))) }
 name_word ops.Delete = record { some = omega arith; short = omega arith; bare = All-from_recursion (λ b. 33 ≤ b) (codes "delete") (omega arith, (omega arith, (omega arith, (omega arith, (omega arith, (omega arith, tt)))))) }
 name_word ops.Touch = record { some = omega arith; short = omega arith; bare = All-from_recursion (λ b. 33 ≤ b) (codes "touch") (omega arith, (omega arith, (omega arith, (omega arith, (omega arith, tt))))) }
+name_word ops.Incr = record { some = omega arith; short = omega arith; bare = All-from_recursion (λ b. 33 ≤ b) (codes "incr") (omega arith, (omega arith, (omega arith, (omega arith, tt)))) }
+name_word ops.Decr = record { some = omega arith; short = omega arith; bare = All-from_recursion (λ b. 33 ≤ b) (codes "decr") (omega arith, (omega arith, (omega arith, (omega arith, tt)))) }
 
 -- an operation with a key alone
-bare_reads : (op : Op) (rest : List ℕ) → is_key_word rest ≡ true → said (op_name op ∷ rest ∷ []) ≡ plain op (rest ∷ []) (pos 0) false
-    → Reads (Held (spelled (op_name op) rest [] [])) (asked (asking (ask_of op rest 0 (pos 0) [] None)) ∷ []) (Held [])
+bare_reads : (op : Op) (rest : List ℕ) → is_key_word rest ≡ true → said (op_name op ∷ rest ∷ []) ≡ plain op (rest ∷ []) (pos 0) 0 false
+    → Reads (Held (spelled (op_name op) rest [] [])) (asked (asking (ask_of op rest 0 (pos 0) [] None 0)) ∷ []) (Held [])
 bare_reads op rest key says =
-    line_reads (op_name op) (rest ∷ []) [] (whole (asking (ask_of op rest 0 (pos 0) [] None))) _ _ (name_word op) (key_word rest key, tt) (omega arith)
-    (says ∙ plain_key op rest (pos 0) key) (refl, refl) (two_words (op_name op) rest (32 ∷ []) (13 ∷ []) (10 ∷ []) [])
+    line_reads (op_name op) (rest ∷ []) [] (whole (asking (ask_of op rest 0 (pos 0) [] None 0))) _ _ (name_word op) (key_word rest key, tt) (omega arith)
+    (says ∙ plain_key op rest (pos 0) 0 key) (refl, refl) (two_words (op_name op) rest (32 ∷ []) (13 ∷ []) (10 ∷ []) [])
 
 touch_reads : (rest : List ℕ) (e : ℤ) → is_key_word rest ≡ true → IsSigned64 e
-    → Reads (Held (spelled (codes "touch") rest (codes " " ++ signed_decimal e) [])) (asked (asking (ask_of ops.Touch rest 0 e [] None)) ∷ []) (Held [])
+    → Reads (Held (spelled (codes "touch") rest (codes " " ++ signed_decimal e) [])) (asked (asking (ask_of ops.Touch rest 0 e [] None 0)) ∷ []) (Held [])
 touch_reads rest e key l =
-    line_reads (codes "touch") (rest ∷ signed_decimal e ∷ []) [] (whole (asking (ask_of ops.Touch rest 0 e [] None))) _ _ (name_word ops.Touch) (key_word rest key, (signed_word e l, tt)) (omega arith)
-    (ap (λ o. reads o (λ e. plain ops.Touch (rest ∷ []) e false)) (signed_reads e l) ∙ plain_key ops.Touch rest e key) (refl, refl) (three_words (codes "touch") rest (signed_decimal e) (32 ∷ []) (13 ∷ []) (10 ∷ []) [])
+    line_reads (codes "touch") (rest ∷ signed_decimal e ∷ []) [] (whole (asking (ask_of ops.Touch rest 0 e [] None 0))) _ _ (name_word ops.Touch) (key_word rest key, (signed_word e l, tt)) (omega arith)
+    (ap (λ o. reads o (λ e. plain ops.Touch (rest ∷ []) e 0 false)) (signed_reads e l) ∙ plain_key ops.Touch rest e 0 key) (refl, refl) (three_words (codes "touch") rest (signed_decimal e) (32 ∷ []) (13 ∷ []) (10 ∷ []) [])
 
 value_reads : (ask : AskValue) (body : List ℕ) → AfterLine (stores ask (length body)) (body ++ 13 ∷ 10 ∷ []) (asked (asking (with_body ask body))) (Held [])
 value_reads ask body = stored body [] refl refl
 
 storing_reads : (op : Op) (rest : List ℕ) (f : ℕ) (e : ℤ) (body : List ℕ) → is_key_word rest ≡ true → f < 2 ^ 32 → IsSigned64 e → length body ≤ 1048576
     → ((arguments : List (List ℕ)) → said (op_name op ∷ arguments) ≡ storing_said op arguments)
-    → Reads (Held (spelled (op_name op) rest (codes " " ++ decimal f ++ codes " " ++ signed_decimal e ++ codes " " ++ decimal (length body)) (body ++ line_end))) (asked (asking (ask_of op rest f e body None)) ∷ []) (Held [])
+    → Reads (Held (spelled (op_name op) rest (codes " " ++ decimal f ++ codes " " ++ signed_decimal e ++ codes " " ++ decimal (length body)) (body ++ line_end))) (asked (asking (ask_of op rest f e body None 0)) ∷ []) (Held [])
 storing_reads op rest f e body key small signed short says =
     let n : ℕ = length body in
-    line_reads (op_name op) (rest ∷ decimal f ∷ signed_decimal e ∷ decimal n ∷ []) (body ++ 13 ∷ 10 ∷ []) (stores (ask_of op rest f e [] None) n) _ _
+    line_reads (op_name op) (rest ∷ decimal f ∷ signed_decimal e ∷ decimal n ∷ []) (body ++ 13 ∷ 10 ∷ []) (stores (ask_of op rest f e [] None 0) n) _ _
     (name_word op) (key_word rest key, (decimal_word f (omega arith), (signed_word e signed, (decimal_word n (omega arith), tt)))) (omega arith)
     (says (rest ∷ decimal f ∷ signed_decimal e ∷ decimal n ∷ [])
     ∙ storing_words op rest (decimal f) (signed_decimal e) (decimal n) f e n (number_reads (2 ^ 32 - 1) f (omega arith) (omega arith)) (signed_reads e signed) (number_reads (2 ^ 32 - 1) n (omega arith) (omega arith))
     ∙ storing_key op rest f e n None key short)
-    (value_reads (ask_of op rest f e [] None) body) (five_words (op_name op) rest (decimal f) (signed_decimal e) (decimal n) (32 ∷ []) (13 ∷ []) (10 ∷ []) (body ++ 13 ∷ 10 ∷ []))
+    (value_reads (ask_of op rest f e [] None 0) body) (five_words (op_name op) rest (decimal f) (signed_decimal e) (decimal n) (32 ∷ []) (13 ∷ []) (10 ∷ []) (body ++ 13 ∷ 10 ∷ []))
 
 cas_reads : (rest : List ℕ) (f : ℕ) (e : ℤ) (body : List ℕ) (c : ℕ) → is_key_word rest ≡ true → f < 2 ^ 32 → IsSigned64 e → length body ≤ 1048576 → c < 2 ^ 64
-    → Reads (Held (spelled (codes "cas") rest (codes " " ++ decimal f ++ codes " " ++ signed_decimal e ++ codes " " ++ decimal (length body) ++ codes " " ++ decimal c) (body ++ line_end))) (asked (asking (ask_of ops.Cas rest f e body (Some c))) ∷ []) (Held [])
+    → Reads (Held (spelled (codes "cas") rest (codes " " ++ decimal f ++ codes " " ++ signed_decimal e ++ codes " " ++ decimal (length body) ++ codes " " ++ decimal c) (body ++ line_end))) (asked (asking (ask_of ops.Cas rest f e body (Some c) 0)) ∷ []) (Held [])
 cas_reads rest f e body c key small signed short unique =
     let n : ℕ = length body in
-    line_reads (codes "cas") (rest ∷ decimal f ∷ signed_decimal e ∷ decimal n ∷ decimal c ∷ []) (body ++ 13 ∷ 10 ∷ []) (stores (ask_of ops.Cas rest f e [] (Some c)) n) _ _
+    line_reads (codes "cas") (rest ∷ decimal f ∷ signed_decimal e ∷ decimal n ∷ decimal c ∷ []) (body ++ 13 ∷ 10 ∷ []) (stores (ask_of ops.Cas rest f e [] (Some c) 0) n) _ _
     (name_word ops.Cas) (key_word rest key, (decimal_word f (omega arith), (signed_word e signed, (decimal_word n (omega arith), (decimal_word c unique, tt))))) (omega arith)
     (cas_words rest (decimal f) (signed_decimal e) (decimal n) (decimal c) f e n c (number_reads (2 ^ 32 - 1) f (omega arith) (omega arith)) (signed_reads e signed) (number_reads (2 ^ 32 - 1) n (omega arith) (omega arith)) (number_reads (2 ^ 64 - 1) c (omega arith) unique)
     ∙ storing_key ops.Cas rest f e n (Some c) key short)
-    (value_reads (ask_of ops.Cas rest f e [] (Some c)) body) (six_words (codes "cas") rest (decimal f) (signed_decimal e) (decimal n) (decimal c) (32 ∷ []) (13 ∷ []) (10 ∷ []) (body ++ 13 ∷ 10 ∷ []))
+    (value_reads (ask_of ops.Cas rest f e [] (Some c) 0) body) (six_words (codes "cas") rest (decimal f) (signed_decimal e) (decimal n) (decimal c) (32 ∷ []) (13 ∷ []) (10 ∷ []) (body ++ 13 ∷ 10 ∷ []))
+
+adjusting_reads : (op : Op) (rest : List ℕ) (d : ℕ) → is_key_word rest ≡ true → d < 2 ^ 64 → ((arguments : List (List ℕ)) → said (op_name op ∷ arguments) ≡ adjusting_said op arguments)
+    → Reads (Held (spelled (op_name op) rest (codes " " ++ decimal d) [])) (asked (asking (ask_of op rest 0 (pos 0) [] None d)) ∷ []) (Held [])
+adjusting_reads op rest d key l says =
+    line_reads (op_name op) (rest ∷ decimal d ∷ []) [] (whole (asking (ask_of op rest 0 (pos 0) [] None d))) _ _ (name_word op) (key_word rest key, (decimal_word d l, tt)) (omega arith)
+    (says (rest ∷ decimal d ∷ []) ∙ ap (λ o. reads o (λ n. plain op (rest ∷ []) (pos 0) n false)) (number_reads (2 ^ 64 - 1) d (omega arith) l) ∙ plain_key op rest (pos 0) d key) (refl, refl) (three_words (op_name op) rest (decimal d) (32 ∷ []) (13 ∷ []) (10 ∷ []) [])
 
 -- with the fields that the operation hasn't
 
 abbrev ReadsAsked : List ℕ → AskValue → Type 0
 ReadsAsked text ask = Reads (Held text) (asked (asking ask) ∷ []) (Held [])
 
-bare_leg : (op : Op) (leg : LegValue) (text : List ℕ) → IsBare leg → ReadsAsked text (ask_of op leg.rest 0 (pos 0) [] None) → ReadsAsked text (ask_of op leg.rest leg.flags leg.exptime leg.body leg.cas)
+bare_leg : (op : Op) (leg : LegValue) (text : List ℕ) → IsBare leg → ReadsAsked text (ask_of op leg.rest 0 (pos 0) [] None 0) → ReadsAsked text (ask_of op leg.rest leg.flags leg.exptime leg.body leg.cas leg.delta)
 bare_leg op leg text is reads =
-    let same : ask_of op leg.rest 0 (pos 0) [] None ≡ ask_of op leg.rest leg.flags leg.exptime leg.body leg.cas = cc (is.flags, is.exptime, is.body, is.cas) in
+    let same : ask_of op leg.rest 0 (pos 0) [] None 0 ≡ ask_of op leg.rest leg.flags leg.exptime leg.body leg.cas leg.delta = cc (is.flags, is.exptime, is.body, is.cas, is.delta) in
     subst (λ (ask : AskValue). ReadsAsked text ask) same reads
 
-touch_leg : (leg : LegValue) (text : List ℕ) → IsTouch leg → ReadsAsked text (ask_of ops.Touch leg.rest 0 leg.exptime [] None) → ReadsAsked text (ask_of ops.Touch leg.rest leg.flags leg.exptime leg.body leg.cas)
+touch_leg : (leg : LegValue) (text : List ℕ) → IsTouch leg → ReadsAsked text (ask_of ops.Touch leg.rest 0 leg.exptime [] None 0) → ReadsAsked text (ask_of ops.Touch leg.rest leg.flags leg.exptime leg.body leg.cas leg.delta)
 touch_leg leg text is reads =
-    let same : ask_of ops.Touch leg.rest 0 leg.exptime [] None ≡ ask_of ops.Touch leg.rest leg.flags leg.exptime leg.body leg.cas = cc (is.flags, is.body, is.cas) in
+    let same : ask_of ops.Touch leg.rest 0 leg.exptime [] None 0 ≡ ask_of ops.Touch leg.rest leg.flags leg.exptime leg.body leg.cas leg.delta = cc (is.flags, is.body, is.cas, is.delta) in
     subst (λ (ask : AskValue). ReadsAsked text ask) same reads
 
-cas_free : (op : Op) (leg : LegValue) (text : List ℕ) → leg.cas ≡ None → ReadsAsked text (ask_of op leg.rest leg.flags leg.exptime leg.body None) → ReadsAsked text (ask_of op leg.rest leg.flags leg.exptime leg.body leg.cas)
-cas_free op leg text none reads = subst (λ (cas : Option ℕ). ReadsAsked text (ask_of op leg.rest leg.flags leg.exptime leg.body cas)) (sym none) reads
+adjusting_leg : (op : Op) (leg : LegValue) (text : List ℕ) → IsAdjusting leg → ReadsAsked text (ask_of op leg.rest 0 (pos 0) [] None leg.delta) → ReadsAsked text (ask_of op leg.rest leg.flags leg.exptime leg.body leg.cas leg.delta)
+adjusting_leg op leg text is reads =
+    let same : ask_of op leg.rest 0 (pos 0) [] None leg.delta ≡ ask_of op leg.rest leg.flags leg.exptime leg.body leg.cas leg.delta = cc (is.flags, is.exptime, is.body, is.cas) in
+    subst (λ (ask : AskValue). ReadsAsked text ask) same reads
+
+cas_free : (op : Op) (leg : LegValue) (text : List ℕ) → leg.cas ≡ None → leg.delta ≡ 0 → ReadsAsked text (ask_of op leg.rest leg.flags leg.exptime leg.body None 0) → ReadsAsked text (ask_of op leg.rest leg.flags leg.exptime leg.body leg.cas leg.delta)
+cas_free op leg text none zero reads =
+    let same : ask_of op leg.rest leg.flags leg.exptime leg.body None 0 ≡ ask_of op leg.rest leg.flags leg.exptime leg.body leg.cas leg.delta = cc (none, zero) in
+    subst (λ (ask : AskValue). ReadsAsked text ask) same reads
 
 storing_leg : (op : Op) (leg : LegValue) → is_key_word leg.rest ≡ true → IsStoring leg → ((arguments : List (List ℕ)) → said (op_name op ∷ arguments) ≡ storing_said op arguments)
-    → ReadsAsked (spelled (op_name op) leg.rest (codes " " ++ decimal leg.flags ++ codes " " ++ signed_decimal leg.exptime ++ codes " " ++ decimal (length leg.body)) (leg.body ++ line_end)) (ask_of op leg.rest leg.flags leg.exptime leg.body leg.cas)
-storing_leg op leg key is says = cas_free op leg _ is.cas (storing_reads op leg.rest leg.flags leg.exptime leg.body key is.flags is.exptime is.body says)
+    → ReadsAsked (spelled (op_name op) leg.rest (codes " " ++ decimal leg.flags ++ codes " " ++ signed_decimal leg.exptime ++ codes " " ++ decimal (length leg.body)) (leg.body ++ line_end)) (ask_of op leg.rest leg.flags leg.exptime leg.body leg.cas leg.delta)
+storing_leg op leg key is says = cas_free op leg _ is.cas is.delta (storing_reads op leg.rest leg.flags leg.exptime leg.body key is.flags is.exptime is.body says)
 
-cas_leg : (leg : LegValue) → is_key_word leg.rest ≡ true → IsCas leg → ReadsAsked (leg_text (record leg { op = ops.Cas })) (ask_of ops.Cas leg.rest leg.flags leg.exptime leg.body leg.cas)
+cas_leg : (leg : LegValue) → is_key_word leg.rest ≡ true → IsCas leg → ReadsAsked (leg_text (record leg { op = ops.Cas })) (ask_of ops.Cas leg.rest leg.flags leg.exptime leg.body leg.cas leg.delta)
 cas_leg leg key is =
-    subst (λ (cas : Option ℕ). ReadsAsked (leg_text (leg_of ops.Cas leg.rest leg.flags leg.exptime leg.body cas)) (ask_of ops.Cas leg.rest leg.flags leg.exptime leg.body cas)) (sym is.cas)
-    (cas_reads leg.rest leg.flags leg.exptime leg.body is.number key is.flags is.exptime is.body is.small)
+    subst (λ (d : ℕ). ReadsAsked (leg_text (leg_of ops.Cas leg.rest leg.flags leg.exptime leg.body leg.cas d)) (ask_of ops.Cas leg.rest leg.flags leg.exptime leg.body leg.cas d)) (sym is.delta)
+    (subst (λ (cas : Option ℕ). ReadsAsked (leg_text (leg_of ops.Cas leg.rest leg.flags leg.exptime leg.body cas 0)) (ask_of ops.Cas leg.rest leg.flags leg.exptime leg.body cas 0)) (sym is.cas)
+    (cas_reads leg.rest leg.flags leg.exptime leg.body is.number key is.flags is.exptime is.body is.small))
 
-by_op : (op : Op) (leg : LegValue) → is_key_word leg.rest ≡ true → HasFields op leg → ReadsAsked (leg_text (record leg { op = op })) (ask_of op leg.rest leg.flags leg.exptime leg.body leg.cas)
+by_op : (op : Op) (leg : LegValue) → is_key_word leg.rest ≡ true → HasFields op leg → ReadsAsked (leg_text (record leg { op = op })) (ask_of op leg.rest leg.flags leg.exptime leg.body leg.cas leg.delta)
 by_op ops.Get leg key is = bare_leg ops.Get leg _ is (bare_reads ops.Get leg.rest key refl)
 by_op ops.Gets leg key is = bare_leg ops.Gets leg _ is (bare_reads ops.Gets leg.rest key refl)
 by_op ops.Set leg key is = storing_leg ops.Set leg key is (λ arguments. refl)
@@ -283,6 +299,8 @@ by_op ops.Prepend leg key is = storing_leg ops.Prepend leg key is (λ arguments.
 by_op ops.Cas leg key is = cas_leg leg key is
 by_op ops.Delete leg key is = bare_leg ops.Delete leg _ is (bare_reads ops.Delete leg.rest key refl)
 by_op ops.Touch leg key is = touch_leg leg _ is (touch_reads leg.rest leg.exptime key is.exptime)
+by_op ops.Incr leg key is = adjusting_leg ops.Incr leg _ is (adjusting_reads ops.Incr leg.rest leg.delta key is.delta (λ arguments. refl))
+by_op ops.Decr leg key is = adjusting_leg ops.Decr leg _ is (adjusting_reads ops.Decr leg.rest leg.delta key is.delta (λ arguments. refl))
 
 pub leg_reads : (leg : LegValue) → IsWholeLeg leg → Reads (Held (leg_text leg)) (asked (asking (leg_ask leg)) ∷ []) (Held [])
 leg_reads leg is = by_op leg.op leg is.rest is.fields

@@ -1,13 +1,13 @@
 -- Lines with too few words, and lines that name no operation.
 use Rattle.std.proofs.Common.{◌≡◌, ◌≢◌, ℕ, ◌-◌, ◌<◌, ◌≤◌, Bool, true, false, cond, List, [], ◌∷◌, length, get_or, take, drop, map, Bor, Option, Some, None, refl, sym, ap, ◌∙◌, arith, codes}
-use Rattle.std.specs.Prelude.{ℤ}
+use Rattle.std.specs.Prelude.{ℤ, pos}
 use Rattle.std.proofs.lemmas.List.{take_all}
 use Rattle.std.specs.Str.{bytes_eq}
 use Rattle.std.proofs.lemmas.Slice.Eq.{bytes_eq-Decides}
 use Rattle.mcv_base.specs.declared.operation.Op.{Op}
 use Rattle.mcv_base.specs.declared.operation.Op.TheVariants as ops
 use Rattle.mcv_base.specs.Operation.{op_name}
-use Rattle.mcv_text.specs.Line.{LineValue, bad, unknown, said, plain, reads, storing, storing_said, cas_said, touch_said}
+use Rattle.mcv_text.specs.Line.{LineValue, bad, unknown, said, plain, reads, storing, storing_said, cas_said, touch_said, adjusting_said}
 use Rattle.mcv_text.specs.ParsedLine.{all_three, numbers_said}
 use Rattle.mcv_text.specs.Words.{noreply_said, number32_said, number64_said, signed_said}
 
@@ -105,7 +105,7 @@ module _ (ws : List (Bor (List ℕ))) (d : Bor (List ℕ)) (l : 5 ≤ length ws)
   cas_whole t u b some is last = sym (cas_numbered t some ∙ ap (λ o. with_cas (get_or ws 0 d).now o (noreply_at 5 ws) t) is ∙ ap (λ o. with_noreply ops.Cas (get_or ws 0 d).now (Some u) o t) last)
 
 abbrev touch_with : List ℕ → Option Bool → ℤ → LineValue
-touch_with key noreply e = reads noreply (λ b. plain ops.Touch (key ∷ []) e b)
+touch_with key noreply e = reads noreply (λ b. plain ops.Touch (key ∷ []) e 0 b)
 
 touch_parts : (ws : List (Bor (List ℕ))) (d : Bor (List ℕ)) → 2 ≤ length ws → touch_said (texts ws) ≡ reads (signed_said (get_or ws 1 d).now) (touch_with (get_or ws 0 d).now (noreply_at 2 ws))
 touch_parts [] d l = absurd (omega arith)
@@ -125,6 +125,35 @@ module _ (ws : List (Bor (List ℕ))) (d : Bor (List ℕ)) (l : 2 ≤ length ws)
   pub touch_optionless : (t : ℤ) → signed_said (get_or ws 1 d).now ≡ Some t → noreply_at 2 ws ≡ None → bad ≡ touch_said (texts ws)
   touch_optionless t some none = sym (touch_at t some ∙ ap (λ o. touch_with (get_or ws 0 d).now o t) none)
 
+abbrev adjusting_with : Op → List ℕ → Option Bool → ℕ → LineValue
+adjusting_with op key noreply n = reads noreply (λ b. plain op (key ∷ []) (pos 0) n b)
+
+pub adjusting_short : (op : Op) (ws : List (List ℕ)) → length ws < 2 → bad ≡ adjusting_said op ws
+adjusting_short op [] l = refl
+adjusting_short op (a ∷ []) l = refl
+adjusting_short op (a ∷ b ∷ ws) l = absurd (omega arith)
+
+adjusting_parts : (op : Op) (ws : List (Bor (List ℕ))) (d : Bor (List ℕ)) → 2 ≤ length ws → adjusting_said op (texts ws) ≡ reads (number64_said (get_or ws 1 d).now) (adjusting_with op (get_or ws 0 d).now (noreply_at 2 ws))
+adjusting_parts op [] d l = absurd (omega arith)
+adjusting_parts op (k ∷ []) d l = absurd (omega arith)
+adjusting_parts op (k ∷ n ∷ more) d l =
+    let all : take (length (k ∷ n ∷ more) - 2) more ≡ more = take_all (length (k ∷ n ∷ more) - 2) more (omega arith) in
+    ap (λ ms. reads (number64_said n.now) (adjusting_with op k.now (noreply_said (texts ms)))) (sym all)
+
+-- a line of incr or decr whose words are these
+module _ (op : Op) (ws : List (Bor (List ℕ))) (d : Bor (List ℕ)) (l : 2 ≤ length ws) where
+  pub adjusting_numberless : number64_said (get_or ws 1 d).now ≡ None → bad ≡ adjusting_said op (texts ws)
+  adjusting_numberless none = sym (adjusting_parts op ws d l ∙ ap (λ o. reads o (adjusting_with op (get_or ws 0 d).now (noreply_at 2 ws))) none)
+
+  adjusting_at : (n : ℕ) → number64_said (get_or ws 1 d).now ≡ Some n → adjusting_said op (texts ws) ≡ adjusting_with op (get_or ws 0 d).now (noreply_at 2 ws) n
+  adjusting_at n some = adjusting_parts op ws d l ∙ ap (λ o. reads o (adjusting_with op (get_or ws 0 d).now (noreply_at 2 ws))) some
+
+  pub adjusting_optionless : (n : ℕ) → number64_said (get_or ws 1 d).now ≡ Some n → noreply_at 2 ws ≡ None → bad ≡ adjusting_said op (texts ws)
+  adjusting_optionless n some none = sym (adjusting_at n some ∙ ap (λ o. adjusting_with op (get_or ws 0 d).now o n) none)
+
+  pub adjusting_whole : (n : ℕ) (b : Bool) → number64_said (get_or ws 1 d).now ≡ Some n → noreply_at 2 ws ≡ Some b → plain op ((get_or ws 0 d).now ∷ []) (pos 0) n b ≡ adjusting_said op (texts ws)
+  adjusting_whole n b some is = sym (adjusting_at n some ∙ ap (λ o. adjusting_with op (get_or ws 0 d).now o n) is)
+
 refuted : (P : Type 0) (b : Bool) → (b ≡ true → P) → (P → ⊥) → b ≡ false
 refuted P true f n = absurd (n (f refl))
 refuted P false f n = refl
@@ -142,4 +171,4 @@ unknown_said command arguments none version quit =
     let other : (op : Op) → bytes_eq command (op_name op) ≡ false = λ op. other_name command (op_name op) (none op) in
     sym (passed_over _ _ _ (other ops.Get) ∙ passed_over _ _ _ (other ops.Gets) ∙ passed_over _ _ _ (other ops.Set) ∙ passed_over _ _ _ (other ops.Add)
     ∙ passed_over _ _ _ (other ops.Replace) ∙ passed_over _ _ _ (other ops.Append) ∙ passed_over _ _ _ (other ops.Prepend) ∙ passed_over _ _ _ (other ops.Cas)
-    ∙ passed_over _ _ _ (other ops.Delete) ∙ passed_over _ _ _ (other ops.Touch) ∙ passed_over _ _ _ version ∙ passed_over _ _ _ quit)
+    ∙ passed_over _ _ _ (other ops.Delete) ∙ passed_over _ _ _ (other ops.Touch) ∙ passed_over _ _ _ (other ops.Incr) ∙ passed_over _ _ _ (other ops.Decr) ∙ passed_over _ _ _ version ∙ passed_over _ _ _ quit)

@@ -4,7 +4,7 @@ use Rattle.std.specs.List.{find, flat_map}
 use Rattle.mcv_base.specs.declared.operation.Op.{Op}
 use Rattle.mcv_base.specs.declared.operation.Op.TheVariants.{Gets}
 use Rattle.mcv_base.specs.Operation.{is_reading}
-use Rattle.mcv_base.specs.Reply.{ReplyValue, hit, miss, stored, not_stored, exists, not_found, deleted, touched, fault, outcome_of, is_error}
+use Rattle.mcv_base.specs.Reply.{ReplyValue, hit, miss, stored, not_stored, exists, not_found, deleted, touched, number, fault, outcome_of, is_error}
 use Rattle.mcv_text.specs.Request.{RequestValue, asking, version, quit}
 
 -- CR LF
@@ -21,6 +21,7 @@ reply_line exists = codes "EXISTS"
 reply_line not_found = codes "NOT_FOUND"
 reply_line deleted = codes "DELETED"
 reply_line touched = codes "TOUCHED"
+reply_line (number value) = decimal value
 reply_line (fault line) = line
 
 -- the number of the value is in an answer to gets alone

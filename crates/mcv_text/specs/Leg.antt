@@ -3,7 +3,7 @@ use Rattle.std.specs.Prelude.{◌≡◌, ◌≤◌, ◌<◌, ◌^◌, ℕ, ℤ, 
 use Rattle.std.specs.Fmt.{signed_decimal}
 use Rattle.std.specs.Arc.{arc_value}
 use Rattle.mcv_base.specs.declared.operation.Op.{Op}
-use Rattle.mcv_base.specs.declared.operation.Op.TheVariants.{Get, Gets, Set, Add, Replace, Append, Prepend, Cas, Delete, Touch}
+use Rattle.mcv_base.specs.declared.operation.Op.TheVariants.{Get, Gets, Set, Add, Replace, Append, Prepend, Cas, Delete, Touch, Incr, Decr}
 use Rattle.mcv_base.specs.Operation.{op_name}
 use Rattle.mcv_base.specs.Key.{is_key_word}
 use Rattle.mcv_base.specs.declared.request.LegRequest.{LegRequest}
@@ -18,9 +18,10 @@ pub record LegValue : Type 0 where
   pub exptime : ℤ
   pub body : List ℕ
   pub cas : Option ℕ
+  pub delta : ℕ
 
 abbrev pub leg_value : LegRequest → LegValue
-leg_value leg = record { op = leg.op; rest = arc_value leg.rest; flags = leg.flags; exptime = leg.exptime; body = (arc_value leg.body).items; cas = leg.cas }
+leg_value leg = record { op = leg.op; rest = arc_value leg.rest; flags = leg.flags; exptime = leg.exptime; body = (arc_value leg.body).items; cas = leg.cas; delta = leg.delta }
 
 -- ` <flags> <exptime> <bytes>`
 abbrev pub value_words : LegValue → List ℕ
@@ -38,6 +39,8 @@ more_words Prepend leg = value_words leg
 more_words Cas leg = value_words leg ++ codes " " ++ decimal (unwrap_or leg.cas 0)
 more_words Delete leg = []
 more_words Touch leg = codes " " ++ signed_decimal leg.exptime
+more_words Incr leg = codes " " ++ decimal leg.delta
+more_words Decr leg = codes " " ++ decimal leg.delta
 
 -- the value with its CR LF, where the operation has one
 abbrev pub value_block : Op → LegValue → List ℕ
@@ -51,13 +54,15 @@ value_block Prepend leg = leg.body ++ line_end
 value_block Cas leg = leg.body ++ line_end
 value_block Delete leg = []
 value_block Touch leg = []
+value_block Incr leg = []
+value_block Decr leg = []
 
 abbrev pub leg_text : LegValue → List ℕ
 leg_text leg = op_name leg.op ++ codes " " ++ leg.rest ++ more_words leg.op leg ++ line_end ++ value_block leg.op leg
 
 -- the request that the leg is: of its rest alone, and with an answer
 abbrev pub leg_ask : LegValue → AskValue
-leg_ask leg = record { op = leg.op; keys = leg.rest ∷ []; flags = leg.flags; exptime = leg.exptime; body = leg.body; cas = leg.cas; noreply = false }
+leg_ask leg = record { op = leg.op; keys = leg.rest ∷ []; flags = leg.flags; exptime = leg.exptime; body = leg.body; cas = leg.cas; delta = leg.delta; noreply = false }
 
 -- an i64
 abbrev pub IsSigned64 : ℤ → Type 0
@@ -70,6 +75,7 @@ pub record IsStoring (leg : LegValue) : Type 0 where
   pub exptime : IsSigned64 leg.exptime
   pub body : length leg.body ≤ 1048576
   pub cas : leg.cas ≡ None
+  pub delta : leg.delta ≡ 0
 
 -- that of an operation with a key alone
 pub record IsBare (leg : LegValue) : Type 0 where
@@ -77,6 +83,7 @@ pub record IsBare (leg : LegValue) : Type 0 where
   pub exptime : leg.exptime ≡ pos 0
   pub body : leg.body ≡ []
   pub cas : leg.cas ≡ None
+  pub delta : leg.delta ≡ 0
 
 pub record IsCas (leg : LegValue) : Type 0 where
   pub flags : leg.flags < 2 ^ 32
@@ -85,12 +92,21 @@ pub record IsCas (leg : LegValue) : Type 0 where
   pub number : ℕ
   pub small : number < 2 ^ 64
   pub cas : leg.cas ≡ Some number
+  pub delta : leg.delta ≡ 0
 
 pub record IsTouch (leg : LegValue) : Type 0 where
   pub flags : leg.flags ≡ 0
   pub exptime : IsSigned64 leg.exptime
   pub body : leg.body ≡ []
   pub cas : leg.cas ≡ None
+  pub delta : leg.delta ≡ 0
+
+pub record IsAdjusting (leg : LegValue) : Type 0 where
+  pub flags : leg.flags ≡ 0
+  pub exptime : leg.exptime ≡ pos 0
+  pub body : leg.body ≡ []
+  pub cas : leg.cas ≡ None
+  pub delta : leg.delta < 2 ^ 64
 
 -- the leg has each field of its operation, the others are 0, empty or None, and its value is within the limit
 abbrev pub HasFields : Op → LegValue → Type 0
@@ -104,6 +120,8 @@ HasFields Prepend leg = IsStoring leg
 HasFields Cas leg = IsCas leg
 HasFields Delete leg = IsBare leg
 HasFields Touch leg = IsTouch leg
+HasFields Incr leg = IsAdjusting leg
+HasFields Decr leg = IsAdjusting leg
 
 pub record IsWholeLeg (leg : LegValue) : Type 0 where
   pub rest : is_key_word leg.rest ≡ true

@@ -1,4 +1,4 @@
--- What one line says, by the table of requests (memcached, protocol.txt; incr and decr are left out).
+-- What one line says, by the table of requests (memcached, protocol.txt).
 use Rattle.std.specs.Prelude.{ℕ, ℤ, pos, List, [], ◌∷◌, Bool, false, nat_lt, Option, Some, None, if◌then◌else◌, codes}
 use Rattle.std.specs.List.{list_all}
 use Rattle.std.specs.Str.{bytes_eq}
@@ -25,9 +25,9 @@ reads None line = bad
 reads (Some x) line = line x
 
 -- a request without a value
-abbrev pub plain : Op → List (List ℕ) → ℤ → Bool → LineValue
-plain op keys exptime noreply =
-    if list_all is_key_word keys then whole (asking (record { op = op; keys = keys; flags = 0; exptime = exptime; body = []; cas = None; noreply = noreply }))
+abbrev pub plain : Op → List (List ℕ) → ℤ → ℕ → Bool → LineValue
+plain op keys exptime delta noreply =
+    if list_all is_key_word keys then whole (asking (record { op = op; keys = keys; flags = 0; exptime = exptime; body = []; cas = None; delta = delta; noreply = noreply }))
     else bad
 
 -- a request with a value of n bytes
@@ -35,13 +35,13 @@ abbrev pub storing : Op → List ℕ → ℕ → ℤ → ℕ → Option ℕ → 
 storing op key flags exptime n cas noreply =
     if is_key_word key then
     (if nat_lt value_limit n then too_large n
-    else stores (record { op = op; keys = key ∷ []; flags = flags; exptime = exptime; body = []; cas = cas; noreply = noreply }) n)
+    else stores (record { op = op; keys = key ∷ []; flags = flags; exptime = exptime; body = []; cas = cas; delta = 0; noreply = noreply }) n)
     else bad
 
 -- <key>+
 abbrev pub reading_said : Op → List (List ℕ) → LineValue
 reading_said op [] = bad
-reading_said op (key ∷ keys) = plain op (key ∷ keys) (pos 0) false
+reading_said op (key ∷ keys) = plain op (key ∷ keys) (pos 0) 0 false
 
 -- <key> <flags> <exptime> <bytes> [noreply]
 abbrev pub storing_said : Op → List (List ℕ) → LineValue
@@ -60,12 +60,17 @@ cas_said other = bad
 -- <key> [0] [noreply]
 abbrev pub delete_said : List (List ℕ) → LineValue
 delete_said [] = bad
-delete_said (key ∷ options) = reads (delete_options_said options) (λ noreply. plain ops.Delete (key ∷ []) (pos 0) noreply)
+delete_said (key ∷ options) = reads (delete_options_said options) (λ noreply. plain ops.Delete (key ∷ []) (pos 0) 0 noreply)
 
 -- <key> <exptime> [noreply]
 abbrev pub touch_said : List (List ℕ) → LineValue
-touch_said (key ∷ exptime ∷ options) = reads (signed_said exptime) (λ e. reads (noreply_said options) (λ noreply. plain ops.Touch (key ∷ []) e noreply))
+touch_said (key ∷ exptime ∷ options) = reads (signed_said exptime) (λ e. reads (noreply_said options) (λ noreply. plain ops.Touch (key ∷ []) e 0 noreply))
 touch_said other = bad
+
+-- <key> <value> [noreply]
+abbrev pub adjusting_said : Op → List (List ℕ) → LineValue
+adjusting_said op (key ∷ delta ∷ options) = reads (number64_said delta) (λ d. reads (noreply_said options) (λ noreply. plain op (key ∷ []) (pos 0) d noreply))
+adjusting_said op other = bad
 
 -- no more words
 abbrev pub alone_said : RequestValue → List (List ℕ) → LineValue
@@ -86,9 +91,11 @@ said (command ∷ arguments) =
     else (if bytes_eq command (codes "cas") then cas_said arguments
     else (if bytes_eq command (codes "delete") then delete_said arguments
     else (if bytes_eq command (codes "touch") then touch_said arguments
+    else (if bytes_eq command (codes "incr") then adjusting_said ops.Incr arguments
+    else (if bytes_eq command (codes "decr") then adjusting_said ops.Decr arguments
     else (if bytes_eq command (codes "version") then alone_said version arguments
     else (if bytes_eq command (codes "quit") then alone_said quit arguments
-    else unknown)))))))))))
+    else unknown)))))))))))))
 
 -- a line, without its LF
 unfoldable pub meaning : List ℕ → LineValue

@@ -17,6 +17,7 @@ pub record AskValue : Type 0 where
   pub exptime : ℤ
   pub body : List ℕ
   pub cas : Option ℕ
+  pub delta : ℕ
   pub noreply : Bool
 
 pub data RequestValue : Type 0 where
@@ -29,7 +30,7 @@ pub data ItemValue : Type 0 where
   refused : Refusal → ItemValue
 
 abbrev pub request_value : Request → RequestValue
-request_value (requests.Ask a) = asking (record { op = a.op; keys = map (λ key. key.items) a.keys.items; flags = a.flags; exptime = a.exptime; body = (arc_value a.body).items; cas = a.cas; noreply = a.noreply })
+request_value (requests.Ask a) = asking (record { op = a.op; keys = map (λ key. key.items) a.keys.items; flags = a.flags; exptime = a.exptime; body = (arc_value a.body).items; cas = a.cas; delta = a.delta; noreply = a.noreply })
 request_value requests.Version = version
 request_value requests.Quit = quit
 
@@ -39,7 +40,7 @@ item_value (items.Refused refusal) = refused refusal
 
 -- a storing line, before its value
 abbrev pub header_value : Header → AskValue
-header_value h = record { op = h.op; keys = map (λ key. key.items) h.keys.items; flags = h.flags; exptime = h.exptime; body = []; cas = h.cas; noreply = h.noreply }
+header_value h = record { op = h.op; keys = map (λ key. key.items) h.keys.items; flags = h.flags; exptime = h.exptime; body = []; cas = h.cas; delta = 0; noreply = h.noreply }
 
 abbrev pub with_body : AskValue → List ℕ → AskValue
 with_body ask value = record ask { body = value }

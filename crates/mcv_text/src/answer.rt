@@ -11,7 +11,8 @@ use itoa::Buffer;
 use mcv_base::{Ask, FixedReply, Op, Outcome, Part, Reply, Request};
 use std::alloc::{AllocError, Global};
 
-fn fixed_line(reply: FixedReply) -> &'static [u8]
+/// A number is written into the buffer.
+fn fixed_line(reply: FixedReply, buffer: &mut Buffer) -> &[u8]
     ensures { result.now ≡ reply_line (fixed_value reply) }
 {
     match reply {
@@ -22,12 +23,13 @@ fn fixed_line(reply: FixedReply) -> &'static [u8]
         FixedReply::NotFound => b"NOT_FOUND",
         FixedReply::Deleted => b"DELETED",
         FixedReply::Touched => b"TOUCHED",
+        FixedReply::Number(value) => buffer.format(value).as_bytes(),
         FixedReply::ErrorRoute => b"SERVER_ERROR error route",
         FixedReply::Lost => b"SERVER_ERROR destination failed",
     }
 }
 
-fn owned_line(reply: &Reply) -> &[u8]
+fn owned_line<'a>(reply: &'a Reply, buffer: &'a mut Buffer) -> &'a [u8]
     ensures { result.now ≡ reply_line (reply_value reply.now) }
 {
     match reply {
@@ -38,17 +40,18 @@ fn owned_line(reply: &Reply) -> &[u8]
         Reply::NotFound => b"NOT_FOUND",
         Reply::Deleted => b"DELETED",
         Reply::Touched => b"TOUCHED",
+        Reply::Number(value) => buffer.format(*value).as_bytes(),
         Reply::Fault(line) => line.as_slice(),
     }
 }
 
-/// The line of a reply that has no value, without its end.
-fn line_of(part: &Part) -> &[u8]
+/// The line of a reply that has no value, without its end. A number is written into the buffer.
+fn line_of<'a>(part: &'a Part, buffer: &'a mut Buffer) -> &'a [u8]
     ensures { result.now ≡ reply_line (part_value part.now) }
 {
     match part {
-        Part::Fixed(reply) => fixed_line(*reply),
-        Part::Owned(reply) => owned_line(reply),
+        Part::Fixed(reply) => fixed_line(*reply, buffer),
+        Part::Owned(reply) => owned_line(reply, buffer),
     }
 }
 
@@ -58,6 +61,13 @@ fn push_line(text: &mut Vec<u8>, line: &[u8]) -> Result<(), AllocError>
     text.extend_from_slice(line)?;
     text.extend_from_slice(b"\r\n")?;
     Ok(())
+}
+
+fn push_reply(text: &mut Vec<u8>, part: &Part) -> Result<(), AllocError>
+    ensures { OnOk result (text.new.items ≡ text.old.items ++ reply_line (part_value part.now) ++ line_end) }
+{
+    let mut buffer = Buffer::new();
+    push_line(text, line_of(part, &mut buffer))
 }
 
 fn push_number(text: &mut Vec<u8>, number: u64) -> Result<(), AllocError>
@@ -127,7 +137,7 @@ fn push_lines(text: &mut Vec<u8>, parts: &[Part]) -> Result<(), AllocError>
     ensures { OnOk result (text.new.items ≡ text.old.items ++ flat_map (λ reply. reply_line reply ++ line_end) (map part_value parts.now)) }
 {
     for part in parts {
-        push_line(text, line_of(part))?;
+        push_reply(text, part)?;
     }
     Ok(())
 }
@@ -139,7 +149,7 @@ fn push_answer(text: &mut Vec<u8>, ask: &Ask, parts: &[Part]) -> Result<(), Allo
         return push_lines(text, parts);
     }
     match first_fault(parts) {
-        Some(part) => push_line(text, line_of(part)),
+        Some(part) => push_reply(text, part),
         None => {
             push_hits(text, ask.op, ask.keys.as_slice(), parts)?;
             push_line(text, b"END")

@@ -40,6 +40,7 @@ fn push_more_words(text: &mut Vec<u8>, leg: &LegRequest) -> Result<(), AllocErro
             push_number(text, leg.cas.unwrap_or(0))
         }
         Op::Touch => push_number(text, leg.exptime),
+        Op::Incr | Op::Decr => push_number(text, leg.delta),
     }
 }
 
@@ -48,7 +49,7 @@ fn push_value(text: &mut Vec<u8>, leg: &LegRequest) -> Result<(), AllocError>
     ensures { OnOk result (text.new.items ≡ text.old.items ++ value_block leg.now.op (leg_value leg.now)) }
 {
     match leg.op {
-        Op::Get | Op::Gets | Op::Delete | Op::Touch => Ok(()),
+        Op::Get | Op::Gets | Op::Delete | Op::Touch | Op::Incr | Op::Decr => Ok(()),
         Op::Set | Op::Add | Op::Replace | Op::Append | Op::Prepend | Op::Cas => {
             text.extend_from_slice(leg.body.as_slice())?;
             text.extend_from_slice(b"\r\n")?;

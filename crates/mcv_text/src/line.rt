@@ -3,7 +3,7 @@
 ghost use Rattle.std.specs.Prelude.{◌≡◌, ◌≢◌, ◌∷◌, [], IfOk, map};
 ghost use Rattle.std.specs.Option.{option_map};
 ghost use Rattle.mcv_base.specs.Operation.{op_name};
-ghost use Rattle.mcv_text.specs.Line.{alone_said, cas_said, delete_said, meaning, plain, reading_said, said, storing, storing_said, touch_said};
+ghost use Rattle.mcv_text.specs.Line.{adjusting_said, alone_said, cas_said, delete_said, meaning, plain, reading_said, said, storing, storing_said, touch_said};
 ghost use Rattle.mcv_text.specs.ParsedLine.{IsSmall, KeysRead, line_value, numbers_said};
 ghost use Rattle.mcv_text.specs.Request.{request_value};
 
@@ -57,9 +57,10 @@ fn plain_of(
     op: Op,
     words: &[&[u8]],
     exptime: i64,
+    delta: u64,
     noreply: bool,
 ) -> Result<Meaning, AllocError>
-    ensures means { IfOk result (λ m. line_value m ≡ plain op (map (λ word. word.now) words.now) exptime noreply) }
+    ensures means { IfOk result (λ m. line_value m ≡ plain op (map (λ word. word.now) words.now) exptime delta noreply) }
     ensures fits { IfOk result (λ m. IsSmall m) }
 {
     let Some(keys) = keys_of(alloc, words)? else {
@@ -73,6 +74,7 @@ fn plain_of(
         exptime,
         body,
         cas: None,
+        delta,
         noreply,
     })))
 }
@@ -117,7 +119,7 @@ fn reading_of(alloc: Global, op: Op, arguments: &[&[u8]]) -> Result<Meaning, All
     if arguments.is_empty() {
         return Ok(Meaning::Bad);
     }
-    plain_of(alloc, op, arguments, 0, false)
+    plain_of(alloc, op, arguments, 0, 0, false)
 }
 
 /// `<flags> <exptime> <bytes>`
@@ -178,7 +180,7 @@ fn delete_of(alloc: Global, arguments: &[&[u8]]) -> Result<Meaning, AllocError>
     let Some(noreply) = delete_options(options) else {
         return Ok(Meaning::Bad);
     };
-    plain_of(alloc, Op::Delete, &[*key], 0, noreply)
+    plain_of(alloc, Op::Delete, &[*key], 0, 0, noreply)
 }
 
 /// `<key> <exptime> [noreply]`
@@ -195,7 +197,24 @@ fn touch_of(alloc: Global, arguments: &[&[u8]]) -> Result<Meaning, AllocError>
     let Some(noreply) = noreply(options) else {
         return Ok(Meaning::Bad);
     };
-    plain_of(alloc, Op::Touch, &[*key], exptime, noreply)
+    plain_of(alloc, Op::Touch, &[*key], exptime, 0, noreply)
+}
+
+/// `<key> <value> [noreply]`
+fn adjusting_of(alloc: Global, op: Op, arguments: &[&[u8]]) -> Result<Meaning, AllocError>
+    ensures means { IfOk result (λ m. line_value m ≡ adjusting_said op (map (λ word. word.now) arguments.now)) }
+    ensures fits { IfOk result (λ m. IsSmall m) }
+{
+    let [key, delta, options @ ..] = arguments else {
+        return Ok(Meaning::Bad);
+    };
+    let Some(delta) = number64(delta) else {
+        return Ok(Meaning::Bad);
+    };
+    let Some(noreply) = noreply(options) else {
+        return Ok(Meaning::Bad);
+    };
+    plain_of(alloc, op, &[*key], 0, delta, noreply)
 }
 
 /// A request of one word.
@@ -222,6 +241,7 @@ fn operation_of(alloc: Global, op: Op, arguments: &[&[u8]]) -> Result<Meaning, A
         Op::Cas => cas_of(alloc, arguments),
         Op::Delete => delete_of(alloc, arguments),
         Op::Touch => touch_of(alloc, arguments),
+        Op::Incr | Op::Decr => adjusting_of(alloc, op, arguments),
     }
 }
 

@@ -213,6 +213,7 @@ fn stored(alloc: Global, value: Value) -> Result<Request, AllocError>
         exptime,
         body,
         cas,
+        delta: 0,
         noreply,
     }))
 }

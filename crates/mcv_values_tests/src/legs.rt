@@ -29,6 +29,7 @@ pub fn leg_of(alloc: Global, ask: &Ask) -> Option<LegRequest> {
         exptime: ask.exptime,
         body,
         cas: ask.cas,
+        delta: ask.delta,
     })
 }
 

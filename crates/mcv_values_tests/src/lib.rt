@@ -1,4 +1,4 @@
-//! Tests of the values that every crate speaks of, of the client protocol's texts and of its sessions, and of what holds legs, the queues in memory and the spool's file: those of the crates that need no configuration. They are apart from the crates that they call, so that those aren't proved a second time for them.
+//! Tests of the values that every crate speaks of, of the client protocol's texts and of its sessions. They are apart from the crates that they call, so that those aren't proved a second time for them.
 #![tactic(auto)]
 
 #[cfg(test)]
@@ -10,15 +10,9 @@ mod names;
 #[cfg(test)]
 mod protocol;
 #[cfg(test)]
-mod queues;
-#[cfg(test)]
 mod rows;
 #[cfg(test)]
-mod script;
-#[cfg(test)]
 mod session;
-#[cfg(test)]
-mod spool;
 #[cfg(test)]
 mod tables;
 #[cfg(test)]

@@ -88,6 +88,8 @@ fn operations_have_one_name_each(rt: HostRuntime) {
         Op::Cas,
         Op::Delete,
         Op::Touch,
+        Op::Incr,
+        Op::Decr,
     ];
     for op in all {
         check(&rt, Op::named(op.name().as_bytes()) == Some(op), "its name");
@@ -98,7 +100,12 @@ fn operations_have_one_name_each(rt: HostRuntime) {
             "reading",
         );
     }
-    check(&rt, Op::named(b"incr").is_none(), "no operation");
+    check(&rt, Op::named(b"gat").is_none(), "no operation");
+    check(
+        &rt,
+        Op::Incr.shows_value() && Op::Get.shows_value() && !Op::Touch.shows_value(),
+        "a value that is shown",
+    );
     check(&rt, !Op::Get.is(Op::Gets), "another one");
 }
 

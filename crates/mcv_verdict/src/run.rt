@@ -7,7 +7,7 @@ ghost use Rattle.mcv_cert.specs.Text.{certificate_text};
 ghost use Rattle.mcv_input.specs.Fault.{AreNamedBy};
 ghost use Rattle.mcv_make.specs.FirstFinding.{IsFirstFinding};
 ghost use Rattle.mcv_make.specs.ShownFinding.{IsShown};
-ghost use Rattle.mcv_route.specs.Routes.{RoutesValue};
+ghost use Rattle.mcv_route.specs.Routes.{RoutesValue, within};
 ghost use Rattle.mcv_symbolic.specs.CoveredRoutes.{AreCovered};
 ghost use Rattle.mcv_verdict.specs.Fault.{IsRefusedBy, IsRefusedFor, IsRunFault, of_check};
 ghost use Rattle.mcv_verdict.specs.Text.{covered_line};
@@ -32,7 +32,8 @@ struct Output {
     text: Vec<u8>,
 }
 
-/// Reads a configuration and writes the verdict on it. Where no certificate's text is given, one is made and checked,
+/// Reads a configuration and writes the verdict on it within a window: how far apart, in seconds, a delete and a get are
+/// looked at. Where no certificate's text is given, one is made and checked,
 /// and written behind the verdict; where a delete can be lost, what shows it is written. Else the certificate that the
 /// text says is checked. The configuration is judged first, then the certificate's text, then the certificate. Where
 /// one of them is at fault, nothing is written. The reader may be left with bytes behind a configuration that is too
@@ -42,16 +43,17 @@ pub fn run_check<R: Read, W: Write>(
     reader: &mut R,
     writer: &mut W,
     certificate: Option<&[u8]>,
+    window: u64,
 ) -> Result<Verdict, RunFault>
     ensures ok { IfOk result (λ verdict. (text : List ℕ)
-        × IfSome (R.remaining reader.old) (λ input. IsVerdictOn input (option_map (λ given. given.now) certificate.entry) verdict text)
+        × IfSome (R.remaining reader.old) (λ input. IsVerdictOn input window (option_map (λ given. given.now) certificate.entry) verdict text)
         × Appends (W.contents writer.old) (W.contents writer.new) text) }
     ensures fault { IfErr result (λ fault.
-        IfSome (R.remaining reader.old) (λ input. IsRunFault input (option_map (λ given. given.now) certificate.entry) fault)) }
+        IfSome (R.remaining reader.old) (λ input. IsRunFault input window (option_map (λ given. given.now) certificate.entry) fault)) }
     ensures silent { IfErr result (λ fault. fault ≢ RunFault.Device → W.contents writer.new ≡ W.contents writer.old) }
 {
     let routes = read_configuration(alloc, reader)?;
-    let output = verdict_for(alloc, routes, certificate)?;
+    let output = verdict_for(alloc, routes.within(window), certificate)?;
     write_text(writer, output.text.as_slice())?;
     Ok(output.verdict)
 }
@@ -95,6 +97,7 @@ fn refused(fault: CheckFault) -> RunFault
     match fault {
         CheckFault::Pair(fault) => RunFault::Certificate(fault),
         CheckFault::Memory => RunFault::Memory,
+        CheckFault::Window => RunFault::Window,
     }
 }
 
@@ -122,14 +125,19 @@ fn judge_routes(alloc: Global, routes: Routes) -> Result<Judgement, RunFault>
     }
 }
 
-/// Reads a configuration and gives its routes, if they are covered; else what shows that they aren't. The reader may be
-/// left with bytes behind a configuration that is too long.
-pub fn judge_input<R: Read>(alloc: Global, reader: &mut R) -> Result<Judgement, RunFault>
+/// Reads a configuration and gives its routes, if they are covered within the window; else what shows that they aren't.
+/// The reader may be left with bytes behind a configuration that is too long.
+pub fn judge_input<R: Read>(
+    alloc: Global,
+    reader: &mut R,
+    window: u64,
+) -> Result<Judgement, RunFault>
     ensures judged { IfOk result (λ judgement. (r : RoutesValue)
-        × IfSome (R.remaining reader.old) (λ input. AreNamedBy input r) × IsJudgement r judgement) }
-    ensures fault { IfErr result (λ fault. IfSome (R.remaining reader.old) (λ input. IsRunFault input None fault)) }
+        × IfSome (R.remaining reader.old) (λ input. AreNamedBy input r) × IsJudgement (within window r) judgement) }
+    ensures fault { IfErr result (λ fault. IfSome (R.remaining reader.old) (λ input. IsRunFault input window None fault)) }
 {
-    judge_routes(alloc, read_configuration(alloc, reader)?)
+    let routes = read_configuration(alloc, reader)?;
+    judge_routes(alloc, routes.within(window))
 }
 
 /// The verdict on routes, by the certificate that the text says.
@@ -152,8 +160,8 @@ fn covered(
 ) -> Result<Output, AllocError>
     ensures covered { AreCovered accepted.now }
     ensures certificate { IsCertificate certificate.now }
-    ensures verdict { IfOk result (λ output. output.verdict ≡ Verdict.Covered (length certificate.now)) }
-    ensures text { IfOk result (λ output. output.text.items ≡ covered_line (length certificate.now)) }
+    ensures verdict { IfOk result (λ output. output.verdict ≡ Verdict.Covered (length certificate.now.pairs)) }
+    ensures text { IfOk result (λ output. output.text.items ≡ covered_line (length certificate.now.pairs)) }
 {
     // The routes are covered, and the pairs are those of a certificate.
     let _ = accepted.routes();
@@ -173,8 +181,8 @@ fn covered_with(
 ) -> Result<Output, AllocError>
     ensures covered { AreCovered accepted.now }
     ensures certificate { IsCertificate certificate.now }
-    ensures verdict { IfOk result (λ output. output.verdict ≡ Verdict.Covered (length certificate.now)) }
-    ensures text { IfOk result (λ output. output.text.items ≡ covered_line (length certificate.now) ++ certificate_text certificate.now) }
+    ensures verdict { IfOk result (λ output. output.verdict ≡ Verdict.Covered (length certificate.now.pairs)) }
+    ensures text { IfOk result (λ output. output.text.items ≡ covered_line (length certificate.now.pairs) ++ certificate_text certificate.now.window certificate.now.pairs) }
 {
     let mut output = covered(alloc, accepted, certificate)?;
     let text = certificate.text(alloc)?;

@@ -5,6 +5,7 @@
 use mcv_check::Accepted;
 use mcv_command::{Ending, Proxy, Stop, SystemFiles, exit_status, given_words, run_words};
 use mcv_input::RunFault;
+use mcv_words::RunOptions;
 use std::alloc::Global;
 use std::fs::Files;
 use std::io;
@@ -26,16 +27,13 @@ fn main(rt: HostRuntime) -> ExitCode {
 struct NoProxy;
 
 impl Proxy for NoProxy {
-    ghost serves = { λ _ _ _ _ _ _ _ _. ⊥ };
+    ghost serves = { λ _ _ _ _ _. ⊥ };
 
     fn serve<W: Write>(
         &self,
         _alloc: Global,
         _accepted: Arc<Accepted>,
-        _listen: &str,
-        _spool: &str,
-        _sessions: u64,
-        _proxies: u64,
+        _options: RunOptions<'_>,
         _out: &mut W,
     ) -> Result<(), RunFault> {
         Err(RunFault::Device)

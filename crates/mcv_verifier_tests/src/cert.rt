@@ -25,7 +25,9 @@ const READ: &str = "mcv-cert 1^end^
 mcv-cert 1^0 = 0 1 all 0 0.0^0 = 0 1 all 1 0.1^end^
 mcv-cert 1^0 = 0 1.0 twin 0.0^0 = 0 1.1 twin 0.1^end^
 mcv-cert 1^0 = 0 0.1 same 0 1^0 = 0 0.1 same 1 1^0 = 0 0.1.0 all 0 1 2 -^end^
-mcv-cert 1^0 =a%25%20%FF= 3 - never^0 =b 2 - never^18446744073709551615 = 0 0 same 18446744073709551615 18446744073709551615^end^";
+mcv-cert 1^0 =a%25%20%FF= 3 - never^0 =b 2 - never^18446744073709551615 = 0 0 same 18446744073709551615 18446744073709551615^end^
+mcv-cert 2 60^end^
+mcv-cert 2 18446744073709551615^0 = 0 0 1 all 0 0.0^0 = 0 1 1 all 0 0.0^0 = 1 0 1 never^end^";
 
 /// Whether a certificate is written as this text, and has as many pairs as it says.
 fn is_written(alloc: Global, certificate: &Certificate, text: &[u8]) -> Result<bool, Fail> {
@@ -57,6 +59,14 @@ mcv-cert 1^end|1 2
 mcv-cert 1^end^x|1 3
 mcv-cert 1^end^^|1 3
 mcv-cert 1~^end^|1 1
+mcv-cert 2^end^|1 1
+mcv-cert 2 ^end^|1 1
+mcv-cert 2 0^end^|1 1
+mcv-cert 2 01^end^|1 1
+mcv-cert 2 18446744073709551616^end^|1 1
+mcv-cert 2 60^0 = 0 1 never^end^|1 2
+mcv-cert 1^0 = 0 0 1 never^end^|1 2
+mcv-cert 2 60^0 = 1 0 1 never^0 = 0 1 1 never^end^|2 3
 mcv-cert 1^0 = 0 1 all 0 0.0^0 = 0 1 all 0 0.0^0 = 0 1 all 1 0.1^end^|2 3
 mcv-cert 1^0 = 0 1 all 0 0.0^0 = 0 1 all 1 0.1^|1 4
 mcv-cert 1^1 = 0 1 never^0 = 0 1 never^0 = 0 01 never^end^|2 3
@@ -137,6 +147,7 @@ fn place(alloc: Global) -> Result<Place, AllocError> {
         route: 0,
         class: Vec::new(alloc),
         era: 0,
+        get_era: 0,
         leaf: Position::at(alloc, &[1])?,
     })
 }
@@ -144,7 +155,7 @@ fn place(alloc: Global) -> Result<Place, AllocError> {
 #[test]
 fn a_certificate_takes_pairs_that_rise(rt: HostRuntime) -> Result<(), Fail> {
     let alloc = rt.alloc();
-    let mut certificate = Certificate::new(alloc);
+    let mut certificate = Certificate::new(alloc, 0);
     push_next(&rt, alloc, &mut certificate, 0)?;
     push_next(&rt, alloc, &mut certificate, 1)?;
     assert!(rt;

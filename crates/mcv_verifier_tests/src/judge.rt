@@ -29,6 +29,7 @@ fn number_reported<'a>(
             route: 0,
             class,
             era: 0,
+            get_era: 0,
         },
         readable,
         acknowledged,

@@ -12,7 +12,8 @@ use std::test::Fail;
 
 /// A configuration a line: a warm-up; the next pool after an error; a delete that isn't waited for; one that is sent to
 /// the other pool by a shadow alone; a delete under another salt; a pool of its own for gets; a warm-up behind the
-/// policy of a prefix; a warm-up beside another route; a warm-up before a migration.
+/// policy of a prefix; a warm-up beside another route; a warm-up before a migration; a pool of its own for incr; a
+/// default that replies as another pool.
 const CONFIGS: &str = "\
 {\"pools\":{\"A\":{\"servers\":[\"a:11211\"]},\"B\":{\"servers\":[\"b:11211\"]}},\"route\":{\"type\":\"WarmUpRoute\",\"cold\":\"PoolRoute|A\",\"warm\":\"PoolRoute|B\"}}
 {\"pools\":{\"A\":{\"servers\":[\"a:11211\"]},\"B\":{\"servers\":[\"b:11211\"]}},\"route\":{\"type\":\"FailoverRoute\",\"children\":[\"PoolRoute|A\",\"PoolRoute|B\"]}}
@@ -22,7 +23,9 @@ const CONFIGS: &str = "\
 {\"pools\":{\"A\":{\"servers\":[\"a:11211\"]},\"B\":{\"servers\":[\"b:11211\"]}},\"route\":{\"type\":\"OperationSelectorRoute\",\"operation_policies\":{\"delete\":\"PoolRoute|A\",\"get\":\"PoolRoute|A\",\"gets\":\"PoolRoute|B\"}}}
 {\"pools\":{\"A\":{\"servers\":[\"a:11211\"]},\"B\":{\"servers\":[\"b:11211\"]}},\"routes\":[{\"aliases\":[\"/a/b/\"],\"route\":{\"type\":\"PrefixSelectorRoute\",\"policies\":{\"ab\":{\"type\":\"WarmUpRoute\",\"cold\":\"PoolRoute|A\",\"warm\":\"PoolRoute|B\"}},\"wildcard\":\"NullRoute\"}}]}
 {\"pools\":{\"A\":{\"servers\":[\"a:11211\"]},\"B\":{\"servers\":[\"b:11211\"]}},\"routes\":[{\"aliases\":[\"/a/a/\"],\"route\":\"PoolRoute|A\"},{\"aliases\":[\"/b/b/\"],\"route\":{\"type\":\"WarmUpRoute\",\"cold\":\"PoolRoute|A\",\"warm\":\"PoolRoute|B\"}}]}
-{\"pools\":{\"A\":{\"servers\":[\"a:11211\"]},\"B\":{\"servers\":[\"b:11211\"]}},\"route\":{\"type\":\"MigrateRoute\",\"from\":{\"type\":\"WarmUpRoute\",\"cold\":\"PoolRoute|A\",\"warm\":\"PoolRoute|B\"},\"to\":\"PoolRoute|A\",\"start_time\":1000,\"interval\":3600}}";
+{\"pools\":{\"A\":{\"servers\":[\"a:11211\"]},\"B\":{\"servers\":[\"b:11211\"]}},\"route\":{\"type\":\"MigrateRoute\",\"from\":{\"type\":\"WarmUpRoute\",\"cold\":\"PoolRoute|A\",\"warm\":\"PoolRoute|B\"},\"to\":\"PoolRoute|A\",\"start_time\":1000,\"interval\":3600}}
+{\"pools\":{\"A\":{\"servers\":[\"a:11211\"]},\"B\":{\"servers\":[\"b:11211\"]}},\"route\":{\"type\":\"OperationSelectorRoute\",\"operation_policies\":{\"delete\":\"PoolRoute|A\",\"incr\":\"PoolRoute|B\"},\"default_policy\":\"PoolRoute|A\"}}
+{\"pools\":{\"A\":{\"servers\":[\"a:11211\"]},\"B\":{\"servers\":[\"b:11211\"]}},\"route\":{\"type\":\"OperationSelectorRoute\",\"operation_policies\":{\"delete\":\"PoolRoute|A\"},\"default_policy\":{\"type\":\"AllInitialRoute\",\"children\":[\"PoolRoute|B\",\"PoolRoute|A\"]}}}";
 
 /// The number of a configuration, a finding, and its text. Of the finding the route, the class word (`-` for the empty one),
 /// the era, the key, the leaf, the index, the number of the server, the choice, the operation, and the outcomes of the get
@@ -36,7 +39,9 @@ const TRUE: &str = "\
 5 0 - 0 /././! 2 0 1 0 gets 2=hit 0=deleted => lost b:11211 / route 0 / class = / era 0 / key /././! / gets 2=hit / delete 0=deleted
 6 0 ab 0 /a/b/ab 0.1 0 1 0 get 0.0=miss,0.1=hit 0.0=deleted => lost b:11211 / route 0 / class =ab / era 0 / key /a/b/ab / get 0.0=miss 0.1=hit / delete 0.0=deleted
 7 1 - 0 /b/b/! 1 0 1 0 get 0=miss,1=hit 0=absent => lost b:11211 / route 1 / class = / era 0 / key /b/b/! / get 0=miss 1=hit / delete 0=absent
-8 0 - 0 /././! 0.1 0 1 0 gets 0.0=miss,0.1=hit 0.0=deleted => lost b:11211 / route 0 / class = / era 0 / key /././! / gets 0.0=miss 0.1=hit / delete 0.0=deleted";
+8 0 - 0 /././! 0.1 0 1 0 gets 0.0=miss,0.1=hit 0.0=deleted => lost b:11211 / route 0 / class = / era 0 / key /././! / gets 0.0=miss 0.1=hit / delete 0.0=deleted
+9 0 - 0 /././! 1 0 1 0 incr 1=number 0=deleted => lost b:11211 / route 0 / class = / era 0 / key /././! / incr 1=number / delete 0=deleted
+10 0 - 0 /././! 1.0 0 1 0 decr 1.0=number,1.1=absent 0=deleted => lost b:11211 / route 0 / class = / era 0 / key /././! / decr 1.0=number 1.1=absent / delete 0=deleted";
 
 /// False findings, each with what is wrong.
 const FALSE: &str = "\
@@ -68,7 +73,9 @@ const FALSE: &str = "\
 5 0 a 0 /././! 2 0 1 0 gets 2=hit 0=deleted => gets in a class that there isn't
 5 0 - 0 /././! 2 0 1 0 gets - 0=deleted => gets without a hit
 6 0 ab 0 /a/b/ab 0.1 0 0 0 get 0.0=miss,0.1=hit 0.0=deleted => another server behind a prefix
-6 0 ab 0 /a/b/ab 0.1 0 1 0 get 0.0=miss 0.0=deleted => no hit behind a prefix";
+6 0 ab 0 /a/b/ab 0.1 0 1 0 get 0.0=miss 0.0=deleted => no hit behind a prefix
+0 0 - 0 /././! 1 0 1 0 incr 0=absent,1=number 0=deleted => an incr that goes on after a miss
+9 0 - 0 /././! 1 0 1 0 decr 1=number 0=deleted => a decr that another pool answers";
 
 /// Numbers with this sign between them.
 fn numbers(alloc: Global, text: &str, sign: char) -> Result<Vec<usize>, Fail> {
@@ -86,7 +93,7 @@ fn position(alloc: Global, text: &str) -> Result<Position, Fail> {
 
 fn outcome(word: &str) -> Outcome {
     match word {
-        "hit" | "deleted" => Outcome::Good,
+        "hit" | "number" | "deleted" => Outcome::Good,
         "miss" | "absent" => Outcome::Soft,
         _ => Outcome::Error,
     }
@@ -114,6 +121,8 @@ fn op(word: &str) -> Op {
     match word {
         "get" => Op::Get,
         "gets" => Op::Gets,
+        "incr" => Op::Incr,
+        "decr" => Op::Decr,
         _ => Op::Delete,
     }
 }
@@ -134,6 +143,7 @@ fn empty(alloc: Global) -> Finding {
             route: 0,
             class: Vec::new(alloc),
             era: 0,
+            get_era: 0,
             leaf: Position::root(alloc),
         },
         key: Vec::new(alloc),
@@ -143,6 +153,7 @@ fn empty(alloc: Global) -> Finding {
         op: Op::Get,
         gets: Vec::new(alloc),
         deletes: Vec::new(alloc),
+        window: 0,
     }
 }
 
@@ -154,6 +165,7 @@ fn set_place(alloc: Global, finding: &mut Finding, case: &str) -> Result<(), Fai
         .class
         .extend_from_slice(class(word(case, 2)?))?;
     finding.place.era = word(case, 3)?.parse::<usize>()?;
+    finding.place.get_era = finding.place.era;
     finding.key.extend_from_slice(word(case, 4)?.as_bytes())?;
     finding.place.leaf = position(alloc, word(case, 5)?)?;
     Ok(())

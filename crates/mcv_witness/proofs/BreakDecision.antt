@@ -14,8 +14,7 @@ use Rattle.mcv_base.specs.declared.key.KeyFault.{KeyFault}
 use Rattle.mcv_base.specs.declared.request.ServerId.{ServerId}
 use Rattle.mcv_base.specs.declared.key.KeyFault.TheVariants.{Empty, TooLong, BadByte, NoRest}
 use Rattle.mcv_base.specs.Key.{IsCut, IsKeyFault, IsRest, is_key_byte, is_key_word}
-use Rattle.mcv_base.specs.Operation.{is_reading}
-use Rattle.mcv_route.specs.Eras.{HasEra, IsEraOf}
+use Rattle.mcv_base.specs.Operation.{shows_value}
 use Rattle.mcv_classes.proofs.Order.{before-through}
 use Rattle.mcv_classes.specs.Class.{IsBefore, IsClassWord}
 use Rattle.mcv_classes.specs.Words.{class_words}
@@ -27,7 +26,7 @@ use Rattle.mcv_route.specs.Routes.{RouteEntry, RoutesValue}
 use Rattle.mcv_route.specs.Tree.{Pool, Tree}
 use Rattle.mcv_symbolic.specs.CoveredRoutes.{sizes_of}
 use Rattle.mcv_witness.specs.Breaks.{AreRising, BreaksCoverage, IsLeafOf, IsMissed, IsRead, IsAtPlace, chosen}
-use Rattle.mcv_witness.specs.Confirm.{IsNowhere, are_rising, has_indexes, hit_seen, missed_seen, rising_from}
+use Rattle.mcv_witness.specs.Confirm.{AreErasOf, HaveNoEras, IsNowhere, are_rising, has_indexes, hit_seen, missed_seen, rising_from}
 use Rattle.mcv_witness.specs.Finding.{FindingValue}
 use Rattle.mcv_witness.proofs.ConfirmedFindings.{missed_left, missed_right, missed_walk, one_place, read_left, read_right, read_walk}
 use Rattle.mcv_witness.proofs.EachMember.{Each, each_map}
@@ -38,20 +37,20 @@ use Rattle.mcv_witness.proofs.Regions.{Rises}
 
 module _ (r : RoutesValue) (f : FindingValue) where
   pub nowhere : IsNowhere r f → IsTrue false ↔ BreaksCoverage r f
-  nowhere none = (λ e. absurd (false≢true e), λ b. absurd (none b.tree b.rest b.since b.placed))
+  nowhere none = (λ e. absurd (false≢true e), λ b. absurd (none b.tree b.rest b.since b.get_since b.placed))
 
-  module _ (t : Tree) (rest : List ℕ) (since : Option ℕ) (placed : IsAtPlace r f t rest since) where
+  module _ (t : Tree) (rest : List ℕ) (since get_since : Option ℕ) (placed : IsAtPlace r f t rest since get_since) where
     its_leaf : BreaksCoverage r f → IsLeafOf f t
-    its_leaf b = subst (IsLeafOf f) (one_place r f b.tree t b.rest rest b.since since b.placed placed).0 b.leaf
+    its_leaf b = subst (IsLeafOf f) (one_place r f b.tree t b.rest rest b.since since b.get_since get_since b.placed placed).0 b.leaf
 
-    its_read : BreaksCoverage r f → IsRead f t rest since
+    its_read : BreaksCoverage r f → IsRead f t rest get_since
     its_read b =
-        let same = one_place r f b.tree t b.rest rest b.since since b.placed placed in
-        subst (λ x. IsRead f x rest since) same.0 (subst (λ x. IsRead f b.tree x since) same.1 (subst (IsRead f b.tree b.rest) same.2 b.read))
+        let same = one_place r f b.tree t b.rest rest b.since since b.get_since get_since b.placed placed in
+        subst (λ x. IsRead f x rest get_since) same.0 (subst (λ x. IsRead f b.tree x get_since) same.1 (subst (IsRead f b.tree b.rest) same.3 b.read))
 
     its_missed : BreaksCoverage r f → IsMissed f t rest since
     its_missed b =
-        let same = one_place r f b.tree t b.rest rest b.since since b.placed placed in
+        let same = one_place r f b.tree t b.rest rest b.since since b.get_since get_since b.placed placed in
         subst (λ x. IsMissed f x rest since) same.0 (subst (λ x. IsMissed f b.tree x since) same.1 (subst (IsMissed f b.tree b.rest) same.2 b.missed))
 
     pub no_choice : (IsChoice (sizes_of r) (chosen f) → ⊥) → IsTrue false ↔ BreaksCoverage r f
@@ -60,12 +59,12 @@ module _ (r : RoutesValue) (f : FindingValue) where
     pub no_leaf : (b : Bool) → b ≡ false → IsTrue b ↔ IsLeafOf f t → IsTrue false ↔ BreaksCoverage r f
     no_leaf b e decides = (λ g. absurd (false≢true g), λ breaks. absurd (false≢true (sym e ∙ decides.1 (its_leaf breaks))))
 
-    pub not_read : (b : Bool) → b ≡ false → IsTrue b ↔ IsRead f t rest since → IsTrue false ↔ BreaksCoverage r f
+    pub not_read : (b : Bool) → b ≡ false → IsTrue b ↔ IsRead f t rest get_since → IsTrue false ↔ BreaksCoverage r f
     not_read b e decides = (λ g. absurd (false≢true g), λ breaks. absurd (false≢true (sym e ∙ decides.1 (its_read breaks))))
 
-    pub all_but_missed : IsChoice (sizes_of r) (chosen f) → IsLeafOf f t → IsRead f t rest since → (b : Bool) → IsTrue b ↔ IsMissed f t rest since → IsTrue b ↔ BreaksCoverage r f
+    pub all_but_missed : IsChoice (sizes_of r) (chosen f) → IsLeafOf f t → IsRead f t rest get_since → (b : Bool) → IsTrue b ↔ IsMissed f t rest since → IsTrue b ↔ BreaksCoverage r f
     all_but_missed choice leaf read b decides = (
-      λ e. record { tree = t; rest = rest; since = since; placed = placed; choice = choice; leaf = leaf; read = read; missed = decides.0 e },
+      λ e. record { tree = t; rest = rest; since = since; get_since = get_since; placed = placed; choice = choice; leaf = leaf; read = read; missed = decides.0 e },
       λ breaks. decides.1 (its_missed breaks),
     )
 
@@ -133,13 +132,13 @@ rising_left (x ∷ es) h = let rises = rising_rises (x ∷ es) h in each-rising 
 -- ---- what is read, and what is missed
 
 module _ (f : FindingValue) (t : Tree) (rest : List ℕ) (since : Option ℕ) where
-  pub no_get : is_reading f.op ≡ false → IsTrue false ↔ IsRead f t rest since
+  pub no_get : shows_value f.op ≡ false → IsTrue false ↔ IsRead f t rest since
   no_get e = (λ g. absurd (false≢true g), λ h. absurd (false≢true (sym e ∙ h.reading)))
 
   pub unsorted_gets : are_rising f.gets ≡ false → IsTrue false ↔ IsRead f t rest since
   unsorted_gets e = (λ g. absurd (false≢true g), λ h. absurd (false≢true (sym e ∙ rising_left f.gets h.rising)))
 
-  pub reads : (b : Bool) → is_reading f.op ≡ true → are_rising f.gets ≡ true → b ≡ hit_seen (read_walk f t rest since) → IsTrue b ↔ IsRead f t rest since
+  pub reads : (b : Bool) → shows_value f.op ≡ true → are_rising f.gets ≡ true → b ≡ hit_seen (read_walk f t rest since) → IsTrue b ↔ IsRead f t rest since
   reads b reading rising e = (λ g. read_right f t rest since reading (rising_right f.gets rising) (sym e ∙ g), λ h. e ∙ read_left f t rest since h)
 
   pub unsorted_deletes : are_rising f.deletes ≡ false → IsTrue false ↔ IsMissed f t rest since
@@ -213,33 +212,33 @@ no-key word BadByte prefix rest h e cut is = not-key word BadByte h (λ x. cc) e
 
 module _ (r : RoutesValue) (f : FindingValue) where
   pub faulty_key : (fault : KeyFault) → IsKeyFault f.key fault → IsNowhere r f
-  faulty_key fault h t rest since s = no-key f.key fault s.prefix rest h s.word s.cut s.rest_is
+  faulty_key fault h t rest since get_since s = no-key f.key fault s.prefix rest h s.word s.cut s.rest_is
 
   module _ (routed more : List ℕ) (cut : IsCut f.key routed more) where
-    selects : (t : Tree) (rest : List ℕ) (since : Option ℕ) → IsAtPlace r f t rest since → route_of_prefix routed r.entries ≡ Some f.place.spot.route
-    selects t rest since s = ap (λ p. route_of_prefix p r.entries) (one_reading f.key routed more s.prefix rest cut s.cut).0 ∙ s.selects
+    selects : (t : Tree) (rest : List ℕ) (since get_since : Option ℕ) → IsAtPlace r f t rest since get_since → route_of_prefix routed r.entries ≡ Some f.place.spot.route
+    selects t rest since get_since s = ap (λ p. route_of_prefix p r.entries) (one_reading f.key routed more s.prefix rest cut s.cut).0 ∙ s.selects
 
     pub no_route : None ≡ route_of_prefix routed r.entries → IsNowhere r f
-    no_route e t rest since s = none-some f.place.spot.route (e ∙ selects t rest since s)
+    no_route e t rest since get_since s = none-some f.place.spot.route (e ∙ selects t rest since get_since s)
 
     pub other_route : (n : ℕ) → Some n ≡ route_of_prefix routed r.entries → n ≢ f.place.spot.route → IsNowhere r f
-    other_route n e other t rest since s = other (same_Some n f.place.spot.route (e ∙ selects t rest since s))
+    other_route n e other t rest since get_since s = other (same_Some n f.place.spot.route (e ∙ selects t rest since get_since s))
 
     pub other_class : (u : Tree) (b : Bool) → Some u ≡ option_map (λ e. e.tree) (slice_get r.entries f.place.spot.route) → b ≡ false → IsTrue b ↔ IsClassWord (class_words u) more f.place.spot.class → IsNowhere r f
-    other_class u b e bad decides t rest since s =
+    other_class u b e bad decides t rest since get_since s =
         let tree : t ≡ u = same_Some t u (sym s.route ∙ sym e) in
         let same : rest ≡ more = sym (one_reading f.key routed more s.prefix rest cut s.cut).1 in
         false≢true (sym bad ∙ decides.1 (subst (λ x. IsClassWord (class_words x) more f.place.spot.class) tree (subst (λ x. IsClassWord (class_words t) x f.place.spot.class) same s.class)))
 
   pub no_tree : None ≡ option_map (λ e. e.tree) (slice_get r.entries f.place.spot.route) → IsNowhere r f
-  no_tree e t rest since s = none-some t (e ∙ s.route)
+  no_tree e t rest since get_since s = none-some t (e ∙ s.route)
 
-  pub no_era : (HasEra r f.place.spot.era → ⊥) → IsNowhere r f
-  no_era none t rest since s = none (since, s.era)
+  pub no_eras : HaveNoEras r f → IsNowhere r f
+  no_eras none t rest since get_since s = none since get_since (record { era = s.era; get_era = s.get_era; near = s.near })
 
-  pub found_at : (routed more : List ℕ) (t : Tree) (since : Option ℕ) (n : ℕ) → is_key_word f.key ≡ true → IsCut f.key routed more → IsRest more → Some n ≡ route_of_prefix routed r.entries → n ≡ f.place.spot.route
-      → Some t ≡ option_map (λ e. e.tree) (slice_get r.entries n) → IsClassWord (class_words t) more f.place.spot.class → IsEraOf r f.place.spot.era since → IsAtPlace r f t more since
-  found_at routed more t since n word cut rest selects same tree class era = record {
+  pub found_at : (routed more : List ℕ) (t : Tree) (since get_since : Option ℕ) (n : ℕ) → is_key_word f.key ≡ true → IsCut f.key routed more → IsRest more → Some n ≡ route_of_prefix routed r.entries → n ≡ f.place.spot.route
+      → Some t ≡ option_map (λ e. e.tree) (slice_get r.entries n) → IsClassWord (class_words t) more f.place.spot.class → AreErasOf r f since get_since → IsAtPlace r f t more since get_since
+  found_at routed more t since get_since n word cut rest selects same tree class eras = record {
     prefix = routed;
     route = ap (λ k. option_map (λ e. e.tree) (slice_get r.entries k)) (sym same) ∙ sym tree;
     word = word;
@@ -247,5 +246,7 @@ module _ (r : RoutesValue) (f : FindingValue) where
     rest_is = rest;
     selects = sym selects ∙ ap Some same;
     class = class;
-    era = era;
+    era = eras.era;
+    get_era = eras.get_era;
+    near = eras.near;
   }

@@ -8,7 +8,7 @@ use Rattle.mcv_route.proofs.BreakTables.{one_era}
 use Rattle.mcv_base.specs.declared.operation.Op.TheVariants.{Delete}
 use Rattle.mcv_base.specs.declared.reply.Outcome.{Outcome}
 use Rattle.mcv_base.specs.declared.reply.Outcome.TheVariants.{Good, Soft, Error}
-use Rattle.mcv_base.specs.Operation.{is_reading}
+use Rattle.mcv_base.specs.Operation.{shows_value}
 use Rattle.mcv_base.specs.Reply.{is_error}
 use Rattle.mcv_route.specs.Launched.{launched}
 use Rattle.mcv_route.specs.Outcomes.{outcomes}
@@ -58,7 +58,7 @@ module _ (f : FindingValue) (t : Tree) (rest : List ℕ) (since : Option ℕ) wh
   abbrev read_seen : Seen
   read_seen = record { reply = seen_reply f.place.leaf (replies t (asked f.op rest since) (outcomes f.gets)); sent = reaches f.server (launched t (asked f.op rest since) (chosen f) (outcomes f.gets)) }
 
-  pub read_right : is_reading f.op ≡ true → AreRising f.gets → hit_seen read_walk ≡ true → IsRead f t rest since
+  pub read_right : shows_value f.op ≡ true → AreRising f.gets → hit_seen read_walk ≡ true → IsRead f t rest since
   read_right reading rising e =
       let walk = sees f.place.leaf f.server (chosen f) t (asked f.op rest since) f.gets (rising_rises f.gets rising) in
       let parts = cond_hit (all_sent (launched t (asked f.op rest since) (chosen f) (outcomes f.gets)) f.gets) read_seen (sym (ap hit_seen walk) ∙ e) in
@@ -136,6 +136,7 @@ module _ (f : FindingValue) (t : Tree) (rest : List ℕ) (since : Option ℕ) wh
 -- ---- one place
 
 -- a finding is at one place
-pub one_place : (r : RoutesValue) (f : FindingValue) (t u : Tree) (rest more : List ℕ) (since other : Option ℕ) → IsAtPlace r f t rest since → IsAtPlace r f u more other → (t ≡ u) × (rest ≡ more) × (since ≡ other)
-one_place r f t u rest more since other h g =
-    (same_Some t u (sym h.route ∙ g.route), (one_reading f.key h.prefix rest g.prefix more h.cut g.cut).1, one_era r f.place.spot.era since other h.era g.era)
+pub one_place : (r : RoutesValue) (f : FindingValue) (t u : Tree) (rest more : List ℕ) (since other get_since get_other : Option ℕ) → IsAtPlace r f t rest since get_since → IsAtPlace r f u more other get_other
+    → (t ≡ u) × (rest ≡ more) × (since ≡ other) × (get_since ≡ get_other)
+one_place r f t u rest more since other get_since get_other h g =
+    (same_Some t u (sym h.route ∙ g.route), (one_reading f.key h.prefix rest g.prefix more h.cut g.cut).1, one_era r f.place.spot.era since other h.era g.era, one_era r f.place.spot.get_era get_since get_other h.get_era g.get_era)

@@ -31,11 +31,12 @@ routes = record {
   servers = codes "a:11211" ∷ codes "b:11211" ∷ [];
   symbols = record { func = Ch3; salt = []; n = 1 } ∷ [];
   entries = record { aliases = codes "/././" ∷ []; tree = tree } ∷ [];
+  window = 0;
 }
 
 abbrev finding : FindingValue
 finding = record {
-  place = record { spot = record { route = 0; class = []; era = 0 }; leaf = 1 ∷ [] };
+  place = record { spot = record { route = 0; class = []; era = 0; get_era = 0 }; leaf = 1 ∷ [] };
   at = 0;
   server = 1;
   key = codes "/././!";
@@ -43,6 +44,7 @@ finding = record {
   op = Get;
   gets = (0 ∷ [], Soft) ∷ (1 ∷ [], Good) ∷ [];
   deletes = (0 ∷ [], Good) ∷ [];
+  window = 0;
 }
 
 abbrev rest : List ℕ
@@ -66,6 +68,7 @@ warm_up_breaks = record {
   tree = tree;
   rest = rest;
   since = None;
+  get_since = None;
   placed = record {
     prefix = codes "/././";
     route = refl;
@@ -79,6 +82,8 @@ warm_up_breaks = record {
       longest = λ v h e. All-contains (λ w. length w ≤ 0) ([] ∷ []) v (All-cons (λ w. length w ≤ 0) [] [] (omega arith) (All-nil (λ w. length w ≤ 0))) h;
     };
     era = refl;
+    get_era = refl;
+    near = inl refl;
   };
   choice = choice_is;
   leaf = record { pool = record { symbol = 0; servers = 1 ∷ [] }; pool_there = refl; index = refl; server = refl };

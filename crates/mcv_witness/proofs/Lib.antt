@@ -1,4 +1,5 @@
 pub mod EachMember
+pub mod EraLine
 pub mod EscapedByte
 pub mod Regions
 pub mod LegsAreBelow

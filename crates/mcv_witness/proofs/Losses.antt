@@ -6,6 +6,7 @@ use Rattle.std.proofs.lemmas.List.Elements.{Contains-append_right}
 use Rattle.std.proofs.lemmas.Option.{none-some, same_Some}
 use Rattle.mcv_base.specs.declared.reply.Outcome.{Outcome}
 use Rattle.mcv_route.proofs.BreakTables.{era_there}
+use Rattle.mcv_route.proofs.NearBreaks.{near_grows}
 use Rattle.mcv_route.specs.Launched.{launched}
 use Rattle.mcv_route.specs.Outcomes.{Outcomes, Choice, History, is_same, outcomes}
 use Rattle.mcv_route.specs.Places.{pool_at_position}
@@ -80,8 +81,11 @@ can_hit f t rest since leaf read =
 -- ---- the law
 
 pub findings_are_losses : FindingsAreLosses
-findings_are_losses r f b covered =
+findings_are_losses r f le b covered =
     let e = entry_at r.entries f.place.spot.route b.tree b.placed.route in
-    let here = subst (λ u. IsCovered (sizes_of r) u b.rest b.since) e.2 (covered e.0 b.rest b.since e.1 b.placed.rest_is (era_there r f.place.spot.era b.since b.placed.era)) in
+    let near = (near_grows r f.window r.window b.since b.get_since).1 le b.placed.near in
+    let era = era_there r f.place.spot.era b.since b.placed.era in
+    let get_era = era_there r f.place.spot.get_era b.get_since b.placed.get_era in
+    let here = subst (λ u. IsCovered (sizes_of r) u b.rest b.since b.get_since) e.2 (covered e.0 b.rest b.since b.get_since e.1 b.placed.rest_is era get_era near) in
     b.missed.unsent (here (chosen f) (outcomes f.deletes) b.choice b.missed.reachable b.missed.done f.server
-    (f.op, b.read.reading, can_hit f b.tree b.rest b.since b.leaf b.read))
+    (f.op, b.read.reading, can_hit f b.tree b.rest b.get_since b.leaf b.read))

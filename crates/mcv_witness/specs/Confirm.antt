@@ -4,6 +4,7 @@ use Rattle.std.specs.Cmp.Lexicographic.{slice_cmp}
 use Rattle.std.specs.Ordering.{is_lt, nat_cmp}
 use Rattle.mcv_base.specs.Reply.{is_error}
 use Rattle.mcv_pools.specs.Symbol.{SymbolValue}
+use Rattle.mcv_route.specs.Eras.{IsEraOf, IsNear}
 use Rattle.mcv_route.specs.Outcomes.{History}
 use Rattle.mcv_route.specs.Routes.{RoutesValue}
 use Rattle.mcv_route.specs.Tree.{Tree}
@@ -14,7 +15,17 @@ use Rattle.mcv_witness.specs.declared.seen.SeenReply.{SeenReply}
 
 -- there is no place as the finding names it
 abbrev pub IsNowhere : RoutesValue → FindingValue → Type 0
-IsNowhere r f = (t : Tree) (rest : List ℕ) (since : Option ℕ) → IsAtPlace r f t rest since → ⊥
+IsNowhere r f = (t : Tree) (rest : List ℕ) (since get_since : Option ℕ) → IsAtPlace r f t rest since get_since → ⊥
+
+-- these breaks opened the eras of the finding's delete and of its get, which are near
+pub record AreErasOf (r : RoutesValue) (f : FindingValue) (since get_since : Option ℕ) : Type 0 where
+  pub era : IsEraOf r f.place.spot.era since
+  pub get_era : IsEraOf r f.place.spot.get_era get_since
+  pub near : IsNear r f.window since get_since
+
+-- the routes have no such eras
+abbrev pub HaveNoEras : RoutesValue → FindingValue → Type 0
+HaveNoEras r f = (since get_since : Option ℕ) → AreErasOf r f since get_since → ⊥
 
 -- ---- tests of what was seen
 

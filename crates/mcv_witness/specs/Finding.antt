@@ -1,4 +1,4 @@
--- A finding: a key, a get and a delete of it, by which a server can keep what was deleted (own).
+-- A finding: a key, a read and a delete of it, by which a server can keep what was deleted (own).
 use Rattle.std.specs.Prelude.{ℕ, List, map}
 use Rattle.mcv_base.specs.declared.operation.Op.{Op}
 use Rattle.mcv_cert.specs.Pair.{PlaceValue, place_of}
@@ -15,11 +15,13 @@ pub record FindingValue : Type 0 where
   pub key : List ℕ
   -- the index of each symbol, by the symbol's number
   pub choice : List ℕ
-  -- how the key is read: get or gets
+  -- how the key is read: get, gets, incr or decr
   pub op : Op
-  -- what the legs of the get have answered, and those of the delete, each with its position
+  -- what the legs of the read have answered, and those of the delete, each with its position
   pub gets : History
   pub deletes : History
+  -- the window at which the eras of both are near
+  pub window : ℕ
 
 -- outcomes as they are kept
 abbrev pub outcomes_of : List LegOutcome → History
@@ -36,4 +38,5 @@ finding_of f = record {
   op = f.op;
   gets = outcomes_of f.gets.items;
   deletes = outcomes_of f.deletes.items;
+  window = f.window;
 }

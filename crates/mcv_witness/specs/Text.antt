@@ -1,13 +1,14 @@
 -- The text of a finding, line by line (own).
-use Rattle.std.specs.Prelude.{ℕ, suc, List, [], ◌∷◌, ◌++◌, ◌==◌, codes, decimal, if◌then◌else◌, nat_lt, slice_get, slice_index, unwrap_or}
+use Rattle.std.specs.Prelude.{ℕ, zero, suc, List, [], ◌∷◌, ◌++◌, ◌==◌, codes, decimal, if◌then◌else◌, nat_lt, slice_get, slice_index, unwrap_or}
 use Rattle.std.specs.List.{flat_map}
 use Rattle.mcv_base.specs.declared.operation.Op.{Op}
 use Rattle.mcv_base.specs.declared.operation.Op.TheVariants.{Delete}
 use Rattle.mcv_base.specs.declared.reply.Outcome.{Outcome}
 use Rattle.mcv_base.specs.declared.reply.Outcome.TheVariants.{Good, Soft, Error}
-use Rattle.mcv_base.specs.Operation.{is_reading, op_name}
+use Rattle.mcv_base.specs.Operation.{is_adjusting, is_reading, op_name}
 use Rattle.mcv_base.specs.Position.{position_text}
 use Rattle.mcv_cert.specs.Escape.{escaped, escaped_byte}
+use Rattle.mcv_cert.specs.Pair.{SpotValue}
 use Rattle.mcv_pools.specs.declared.symbol.HashFunc.{HashFunc}
 use Rattle.mcv_pools.specs.declared.symbol.HashFunc.TheVariants.{Ch3, Crc32}
 use Rattle.mcv_pools.specs.Symbol.{SymbolValue}
@@ -49,14 +50,22 @@ read_word Good = codes "hit"
 read_word Soft = codes "miss"
 read_word Error = codes "error"
 
+abbrev pub number_word : Outcome → List ℕ
+number_word Good = codes "number"
+number_word Soft = codes "absent"
+number_word Error = codes "error"
+
 abbrev pub done_word : Outcome → List ℕ
 done_word Good = codes "deleted"
 done_word Soft = codes "absent"
 done_word Error = codes "error"
 
+abbrev pub outcome_word : Op → Outcome → List ℕ
+outcome_word op x = if is_reading op then read_word x else if is_adjusting op then number_word x else done_word x
+
 -- `<position>=<word>`
 abbrev pub answer_text : Op → List ℕ × Outcome → List ℕ
-answer_text op e = position_text e.0 ++ codes "=" ++ (if is_reading op then read_word e.1 else done_word e.1)
+answer_text op e = position_text e.0 ++ codes "=" ++ outcome_word op e.1
 
 -- these with single spaces between them, or `-` where there are none
 abbrev pub answers_text : Op → History → List ℕ
@@ -64,6 +73,11 @@ answers_text op [] = codes "-"
 answers_text op (e ∷ es) = answer_text op e ++ flat_map (λ x. codes " " ++ answer_text op x) es
 
 -- ---- the whole
+
+-- the delete's era, and with a window that of the get
+abbrev pub eras_text : ℕ → SpotValue → List ℕ
+eras_text zero s = decimal s.era
+eras_text (suc w) s = decimal s.era ++ codes " " ++ decimal s.get_era
 
 -- the text of the server, and none where it isn't in the table
 abbrev pub lost_line : RoutesValue → FindingValue → List ℕ
@@ -74,7 +88,7 @@ finding_text r f =
     lost_line r f
     ++ line (codes "route") (decimal f.place.spot.route)
     ++ line (codes "class") (codes "=" ++ escaped f.place.spot.class)
-    ++ line (codes "era") (decimal f.place.spot.era)
+    ++ line (codes "era") (eras_text f.window f.place.spot)
     ++ line (codes "key") (escaped f.key)
     ++ index_lines f.choice 0 r.symbols
     ++ line (op_name f.op) (answers_text f.op f.gets)

@@ -11,7 +11,7 @@ pub struct LegOutcome {
     pub outcome: Outcome,
 }
 
-/// A key, and a get and a delete of it, by which a server can keep what was deleted.
+/// A key, and a read and a delete of it, by which a server can keep what was deleted.
 #[derive(Drop)]
 pub struct Finding {
     /// Where the leaf is that is read.
@@ -24,10 +24,12 @@ pub struct Finding {
     pub key: Vec<u8>,
     /// The index of each symbol.
     pub choice: Choice,
-    /// How the key is read: `Get` or `Gets`.
+    /// How the key is read: `Get`, `Gets`, `Incr` or `Decr`.
     pub op: Op,
-    /// What the legs of the get answered, rising by position.
+    /// What the legs of the read answered, rising by position.
     pub gets: Vec<LegOutcome>,
     /// What those of the delete answered, rising by position.
     pub deletes: Vec<LegOutcome>,
+    /// The window, in seconds, at which the eras of both are near.
+    pub window: u64,
 }

@@ -8,7 +8,7 @@ ghost use Rattle.mcv_route.specs.Situation.{asked};
 ghost use Rattle.mcv_route.specs.Tree.{Tree};
 ghost use Rattle.mcv_route.specs.View.{view};
 ghost use Rattle.mcv_witness.specs.Breaks.{BreaksCoverage, IsAtPlace, IsLeafOf, IsMissed, IsRead};
-ghost use Rattle.mcv_witness.specs.Confirm.{IsNowhere, are_rising, has_indexes, hit_seen, missed_seen};
+ghost use Rattle.mcv_witness.specs.Confirm.{AreErasOf, HaveNoEras, IsNowhere, are_rising, has_indexes, hit_seen, missed_seen};
 ghost use Rattle.mcv_witness.specs.Finding.{finding_of, outcomes_of};
 ghost use Rattle.mcv_witness.specs.Walk.{pass};
 
@@ -19,7 +19,7 @@ use crate::seen::Seen;
 use crate::walk::{Sought, walk};
 use mcv_base::{Mark, Moment, Op, Outcome, Position, Prefix, Rest, ServerId, split_key};
 use mcv_pools::{Choice, Symbol};
-use mcv_route::{Route, Routes, era_count, opened};
+use mcv_route::{Route, Routes, era_count, near, opened};
 use mcv_rules::Asked;
 use std::cmp::Ordering;
 
@@ -43,17 +43,25 @@ pub fn confirm(routes: &Routes, finding: &Finding) -> bool
     is_missed(&scene, finding)
 }
 
-/// Where a finding is: its route, the rest of its key, and the break that opened its era.
+/// The breaks that opened the eras of a finding's delete and of its get.
+#[derive(Clone, Copy)]
+struct Eras {
+    since: Option<Moment>,
+    read: Option<Moment>,
+}
+
+/// Where a finding is: its route, the rest of its key, and the breaks that opened the eras of its delete and of its get.
 #[derive(Drop)]
 struct Scene<'a> {
     route: &'a Route,
     rest: Rest,
     since: Option<Moment>,
+    read: Option<Moment>,
 }
 
 /// The scene that the finding names, if there is one.
 fn scene_of<'a>(routes: &'a Routes, finding: &Finding) -> Option<Scene<'a>>
-    ensures { MatchOption result (IsNowhere routes.now (finding_of finding.now)) (λ p. IsAtPlace routes.now (finding_of finding.now) (view p.route.now) p.rest (option_map (λ m. m.0) p.since)) }
+    ensures { MatchOption result (IsNowhere routes.now (finding_of finding.now)) (λ p. IsAtPlace routes.now (finding_of finding.now) (view p.route.now) p.rest (option_map (λ m. m.0) p.since) (option_map (λ m. m.0) p.read)) }
 {
     match split_key(finding.key.as_slice()) {
         Ok((prefix, rest)) => scene_by(routes, finding, &prefix, rest),
@@ -70,22 +78,46 @@ fn scene_by<'a>(
 ) -> Option<Scene<'a>>
     requires word { is_key_word finding.now.key.items ≡ true }
     requires cut { IsCut finding.now.key.items prefix.now rest }
-    ensures { MatchOption result (IsNowhere routes.now (finding_of finding.now)) (λ p. IsAtPlace routes.now (finding_of finding.now) (view p.route.now) p.rest (option_map (λ m. m.0) p.since)) }
+    ensures { MatchOption result (IsNowhere routes.now (finding_of finding.now)) (λ p. IsAtPlace routes.now (finding_of finding.now) (view p.route.now) p.rest (option_map (λ m. m.0) p.since) (option_map (λ m. m.0) p.read)) }
 {
     let number = routes.route_of(prefix)?;
     if number != finding.place.route {
         return None;
     }
     let route = routes.route(number)?;
-    if finding.place.era >= era_count(routes) {
-        return None;
-    }
+    let eras = eras_of(routes, finding)?;
     if !is_class_word(route, &rest, finding.place.class.as_slice()) {
         return None;
     }
     let _ = rest.as_bytes();
-    let since = opened(routes, finding.place.era);
-    Some(Scene { route, rest, since })
+    Some(Scene {
+        route,
+        rest,
+        since: eras.since,
+        read: eras.read,
+    })
+}
+
+/// The eras that the finding names, where the routes have them and they are near within its window.
+fn eras_of(routes: &Routes, finding: &Finding) -> Option<Eras>
+    ensures { MatchOption result (HaveNoEras routes.now (finding_of finding.now)) (λ e. AreErasOf routes.now (finding_of finding.now) (option_map (λ m. m.0) e.since) (option_map (λ m. m.0) e.read)) }
+{
+    let era = finding.place.era;
+    let get_era = finding.place.get_era;
+    let count = era_count(routes);
+    if era >= count {
+        return None;
+    }
+    if get_era >= count {
+        return None;
+    }
+    if !near(routes, era, get_era, finding.window) {
+        return None;
+    }
+    Some(Eras {
+        since: opened(routes, era),
+        read: opened(routes, get_era),
+    })
 }
 
 /// Whether each symbol has an index below its number of servers.
@@ -151,15 +183,21 @@ fn are_rising(legs: &[LegOutcome]) -> bool
     true
 }
 
-/// What is seen of the finding's route at these outcomes of an operation.
-fn seen(scene: &Scene, finding: &Finding, op: Op, legs: &[LegOutcome]) -> Option<Seen>
+/// What is seen of the finding's route at these outcomes of an operation, in the era that began at `since`.
+fn seen(
+    scene: &Scene,
+    finding: &Finding,
+    op: Op,
+    since: Option<Moment>,
+    legs: &[LegOutcome],
+) -> Option<Seen>
     ensures { result ≡ pass finding.now.place.leaf finding.now.server.0 (slice_index finding.now.choice) (view scene.now.route.now)
-        (asked op scene.now.rest (option_map (λ m. m.0) scene.now.since)) (record { legs = outcomes_of legs.now; depth = 0 }) }
+        (asked op scene.now.rest (option_map (λ m. m.0) since)) (record { legs = outcomes_of legs.now; depth = 0 }) }
 {
     let asked = Asked {
         op,
         rest: &scene.rest,
-        since: scene.since,
+        since,
         mark: Mark::Plain,
     };
     let sought = Sought {
@@ -201,15 +239,21 @@ fn is_past(seen: Option<Seen>) -> bool
 
 /// Whether the get's outcomes can come about, and a hit of the leaf is among its replies.
 fn is_read(scene: &Scene, finding: &Finding) -> bool
-    ensures { IsTrue result ↔ IsRead (finding_of finding.now) (view scene.now.route.now) scene.now.rest (option_map (λ m. m.0) scene.now.since) }
+    ensures { IsTrue result ↔ IsRead (finding_of finding.now) (view scene.now.route.now) scene.now.rest (option_map (λ m. m.0) scene.now.read) }
 {
-    if !finding.op.is_reading() {
+    if !finding.op.shows_value() {
         return false;
     }
     if !are_rising(finding.gets.as_slice()) {
         return false;
     }
-    is_hit(seen(scene, finding, finding.op, finding.gets.as_slice()))
+    is_hit(seen(
+        scene,
+        finding,
+        finding.op,
+        scene.read,
+        finding.gets.as_slice(),
+    ))
 }
 
 /// Whether the delete's outcomes can come about, it has a reply that isn't an error, and the server was sent none of it.
@@ -219,5 +263,11 @@ fn is_missed(scene: &Scene, finding: &Finding) -> bool
     if !are_rising(finding.deletes.as_slice()) {
         return false;
     }
-    is_past(seen(scene, finding, Op::Delete, finding.deletes.as_slice()))
+    is_past(seen(
+        scene,
+        finding,
+        Op::Delete,
+        scene.since,
+        finding.deletes.as_slice(),
+    ))
 }

@@ -1,11 +1,11 @@
 //! The text of a finding.
 
-ghost use Rattle.std.specs.Prelude.{◌≡◌, ◌++◌, [], codes, decimal, if◌then◌else◌, slice_get, unwrap_or, IfOk, OnOk};
+ghost use Rattle.std.specs.Prelude.{◌≡◌, ◌++◌, [], codes, decimal, slice_get, unwrap_or, IfOk, OnOk};
 ghost use Rattle.std.specs.List.{flat_map};
-ghost use Rattle.mcv_base.specs.Operation.{is_reading, op_name};
+ghost use Rattle.mcv_base.specs.Operation.{op_name};
 ghost use Rattle.mcv_cert.specs.Escape.{escaped};
 ghost use Rattle.mcv_witness.specs.Finding.{finding_of, outcomes_of};
-ghost use Rattle.mcv_witness.specs.Text.{answer_text, answers_text, done_word, finding_text, func_name, index_line, index_lines, index_text, line, lost_line, read_word, salt_byte};
+ghost use Rattle.mcv_witness.specs.Text.{answer_text, answers_text, done_word, eras_text, finding_text, func_name, index_line, index_lines, index_text, line, lost_line, number_word, outcome_word, read_word, salt_byte};
 
 use crate::finding::{Finding, LegOutcome};
 use mcv_base::{Op, Outcome, ServerId, push_number};
@@ -26,7 +26,7 @@ pub fn finding_text(
     push_lost(&mut text, finding, routes)?;
     push_number_line(&mut text, b"route", finding.place.route)?;
     push_class(&mut text, finding.place.class.as_slice())?;
-    push_number_line(&mut text, b"era", finding.place.era)?;
+    push_eras(&mut text, finding)?;
     push_key(&mut text, finding.key.as_slice())?;
     push_indexes(&mut text, &finding.choice, routes.symbols().as_slice())?;
     push_answers_line(&mut text, finding.op, finding.gets.as_slice())?;
@@ -61,6 +61,22 @@ fn push_number_line(text: &mut Vec<u8>, word: &[u8], number: usize) -> Result<()
     text.extend_from_slice(b" ")?;
     push_number(text, number)?;
     text.extend_from_slice(b"\n")
+}
+
+/// Adds the line of the delete's era, and with a window of the get's.
+fn push_eras(text: &mut Vec<u8>, finding: &Finding) -> Result<(), AllocError>
+    ensures { let f = finding_of finding.now in OnOk result (text.new.items ≡ text.old.items ++ line (codes "era") (eras_text f.window f.place.spot)) }
+{
+    let window = finding.window;
+    if window == 0 {
+        return push_number_line(text, b"era", finding.place.era);
+    }
+    text.extend_from_slice(b"era ")?;
+    push_number(text, finding.place.era)?;
+    text.extend_from_slice(b" ")?;
+    push_number(text, finding.place.get_era)?;
+    text.extend_from_slice(b"\n")?;
+    Ok(())
 }
 
 fn push_class(text: &mut Vec<u8>, class: &[u8]) -> Result<(), AllocError>
@@ -167,11 +183,23 @@ fn done_word(outcome: Outcome) -> &'static [u8]
     }
 }
 
+fn number_word(outcome: Outcome) -> &'static [u8]
+    ensures { result.now ≡ number_word outcome }
+{
+    match outcome {
+        Outcome::Good => b"number",
+        Outcome::Soft => b"absent",
+        Outcome::Error => b"error",
+    }
+}
+
 fn outcome_word(op: Op, outcome: Outcome) -> &'static [u8]
-    ensures { result.now ≡ (if is_reading op then read_word outcome else done_word outcome) }
+    ensures { result.now ≡ outcome_word op outcome }
 {
     if op.is_reading() {
         read_word(outcome)
+    } else if op.is_adjusting() {
+        number_word(outcome)
     } else {
         done_word(outcome)
     }

@@ -101,6 +101,21 @@ cert_twice : faults (codes "mcv" ∷ codes "check" ∷ codes "--cert" ∷ codes 
 unfolding clap_on_literals
 cert_twice = refl
 
+abbrev window_of : Option (Text × List Row) → Option (Option Text)
+window_of = option_map (λ p. one_of (codes "window") p.1)
+
+no_window_named : window_of (named (codes "mcv" ∷ codes "check" ∷ [])) ≡ Some (Some (codes "0"))
+unfolding clap_on_literals
+no_window_named = refl
+
+window_named : window_of (named (codes "mcv" ∷ codes "check" ∷ codes "--window" ∷ codes "604800" ∷ [])) ≡ Some (Some (codes "604800"))
+unfolding clap_on_literals
+window_named = refl
+
+too_wide_a_window : faults (codes "mcv" ∷ codes "check" ∷ codes "--window" ∷ codes "4294967296" ∷ []) ≡ ValueValidation ∷ []
+unfolding clap_on_literals
+too_wide_a_window = refl
+
 abbrev at_address : List Text
 at_address = codes "mcv" ∷ codes "run" ∷ codes "--listen" ∷ codes "h:1" ∷ []
 
@@ -111,20 +126,37 @@ run : faults run_line ≡ []
 unfolding clap_on_literals
 run = refl
 
-abbrev run_of : Option (Text × List Row) → Option (Option Text × Option Text × Option Text × Option Text)
-run_of = option_map (λ p. (first_of (codes "listen") p.1, first_of (codes "spool") p.1, one_of (codes "sessions") p.1, one_of (codes "proxies") p.1))
+abbrev run_of : Option (Text × List Row) → Option (Option Text × Option Text × Option Text × Option Text × Option Text × Option Text × Option Text)
+run_of = option_map (λ p. (
+  first_of (codes "listen") p.1,
+  first_of (codes "spool") p.1,
+  one_of (codes "sessions") p.1,
+  one_of (codes "proxies") p.1,
+  one_of (codes "window") p.1,
+  one_of (codes "server-timeout") p.1,
+  one_of (codes "client-timeout") p.1,
+))
 
-run_named : run_of (named run_line) ≡ Some (Some (codes "h:1"), Some (codes "f"), Some (codes "1000000000"), Some (codes "1"))
+run_named : run_of (named run_line) ≡ Some (Some (codes "h:1"), Some (codes "f"), None, Some (codes "1"), Some (codes "0"), None, None)
 unfolding clap_on_literals
 run_named = refl
 
-sessions_named : run_of (named (run_line ++ codes "--sessions" ∷ codes "3" ∷ [])) ≡ Some (Some (codes "h:1"), Some (codes "f"), Some (codes "3"), Some (codes "1"))
+sessions_named : run_of (named (run_line ++ codes "--sessions" ∷ codes "3" ∷ [])) ≡ Some (Some (codes "h:1"), Some (codes "f"), Some (codes "3"), Some (codes "1"), Some (codes "0"), None, None)
 unfolding clap_on_literals
 sessions_named = refl
 
-proxies_named : run_of (named (run_line ++ codes "--proxies" ∷ codes "4" ∷ [])) ≡ Some (Some (codes "h:1"), Some (codes "f"), Some (codes "1000000000"), Some (codes "4"))
+proxies_named : run_of (named (run_line ++ codes "--proxies" ∷ codes "4" ∷ [])) ≡ Some (Some (codes "h:1"), Some (codes "f"), None, Some (codes "4"), Some (codes "0"), None, None)
 unfolding clap_on_literals
 proxies_named = refl
+
+run_window_named : run_of (named (run_line ++ codes "--window" ∷ codes "60" ∷ [])) ≡ Some (Some (codes "h:1"), Some (codes "f"), None, Some (codes "1"), Some (codes "60"), None, None)
+unfolding clap_on_literals
+run_window_named = refl
+
+timeouts_named : run_of (named (run_line ++ codes "--client-timeout" ∷ codes "3600000" ∷ codes "--server-timeout=200" ∷ []))
+    ≡ Some (Some (codes "h:1"), Some (codes "f"), None, Some (codes "1"), Some (codes "0"), Some (codes "200"), Some (codes "3600000"))
+unfolding clap_on_literals
+timeouts_named = refl
 
 no_spool : faults at_address ≡ MissingRequiredArgument ∷ []
 unfolding clap_on_literals
@@ -141,3 +173,11 @@ no_proxies = refl
 too_many_proxies : faults (run_line ++ codes "--proxies" ∷ codes "65" ∷ []) ≡ ValueValidation ∷ []
 unfolding clap_on_literals
 too_many_proxies = refl
+
+no_server_timeout : faults (run_line ++ codes "--server-timeout" ∷ codes "0" ∷ []) ≡ ValueValidation ∷ []
+unfolding clap_on_literals
+no_server_timeout = refl
+
+too_long_a_client_timeout : faults (run_line ++ codes "--client-timeout" ∷ codes "3600001" ∷ []) ≡ ValueValidation ∷ []
+unfolding clap_on_literals
+too_long_a_client_timeout = refl

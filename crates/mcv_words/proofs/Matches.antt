@@ -1,9 +1,9 @@
 -- What clap's matches and errors say of the words.
 use Rattle.std.proofs.Common.{◌≡◌, ◌∙◌, ◌⊎◌, ◌<◌, ◌≤◌, ◌^◌, inl, inr, ℕ, List, [], Option, Some, None, false, codes, refl, ap, ap₂, subst, sym}
-use Rattle.std.specs.Prelude.{Box, Result, Ok, Err, option_map}
+use Rattle.std.specs.Prelude.{Box, Result, Ok, Err, IsSome, option_map}
 use Rattle.std.specs.Str.Parse.{IsNumeral, ParsesUnsigned, digits_value, without_leading_plus}
 use Rattle.std.specs.Box.{box_value}
-use Rattle.clap.specs.Words.{IsAmong, ReadsOne, Row, Text, one_of, subcommand_rows_of, subcommand_name_of}
+use Rattle.clap.specs.Words.{IsAmong, ReadsOne, Row, Text, TriesOne, one_of, subcommand_rows_of, subcommand_name_of}
 use Rattle.clap.proofs.ValueTestLemmas.{accepts-Accepts}
 use Rattle.clap.specs.declared.builder.value_parser.ValueParser.TheVariants as parsers
 use Rattle.clap.specs.declared.error.kind.ErrorKind.{ErrorKind}
@@ -12,10 +12,11 @@ use Rattle.clap.specs.declared.parser.matches.ArgMatches.{ArgMatches}
 use Rattle.clap.specs.declared.parser.matches.ArgMatches.TheViews.{out-ArgMatches, out-SubCommand}
 use Rattle.clap.specs.declared.parser.matches.SubCommand.{SubCommand}
 use Rattle.clap.specs.Simple.{subcommand_rows}
-use Rattle.mcv_words.specs.Words.{faults, named, proxy_limit, session_limit, IsFaultOfKind, IsJobOf, IsLineFault, IsNumberOf, IsRunOf}
+use Rattle.mcv_words.specs.Ranges.{proxy_limit, session_limit, timeout_limit, window_limit}
+use Rattle.mcv_words.specs.Words.{faults, named, CanRun, IsCheckOf, IsFaultOfKind, IsGivenIn, IsJobOf, IsLineFault, IsNumberOf, IsRunOf, MayBeGivenIn}
 use Rattle.mcv_words.specs.declared.words.Job.{Job}
 use Rattle.mcv_words.specs.declared.words.Job.TheVariants.{Legs, Check, Run}
-use Rattle.mcv_words.proofs.OptionValues.{HasAll, Passes}
+use Rattle.mcv_words.proofs.OptionValues.{HasAll, HasNumber, MayHaveNumber}
 use Rattle.mcv_words.specs.declared.words.LineFault.{LineFault}
 use Rattle.mcv_words.specs.declared.words.LineFault.TheVariants.{BadLine, Memory, Help, Version}
 
@@ -69,33 +70,68 @@ number_of G option rows text n only is read =
     let spelt = only text (Ok n) read in
     (text, is, spelt.0.0, spelt.1)
 
--- a number that is read is that of a text
-pub number_read : {E : Type 0} (G : List ℕ → Result ℕ E → Type 0) (option : Text) (rows : List Row) (known : Option Text) (n : ℕ) → ReadsNumbers G → one_of option rows ≡ known
-    → (known ≡ None → Some n ≡ None) → ((t : List ℕ) → known ≡ Some t → ReadsOne G t (Some n)) → IsNumberOf option rows n
-number_read G option rows None n only is none read = absurd (let never : Some n ≡ None = none refl in cc)
-number_read G option rows (Some text) n only is none read = number_of G option rows text n only is (read text refl)
+-- what is read of an option is its number; none where it has no value
+pub number_found : {E : Type 0} (G : List ℕ → Result ℕ E → Type 0) (option : Text) (rows : List Row) (known : Option Text) (n : ℕ) → ReadsNumbers G → one_of option rows ≡ known
+    → (known ≡ None → ◌≡◌ {A = Result (Option ℕ) E} (Ok (Some n)) (Ok None)) → ((t : List ℕ) → known ≡ Some t → TriesOne G t (Ok (Some n))) → IsNumberOf option rows n
+number_found {E} G option rows None n only is none read = absurd (let never : ◌≡◌ {A = Result (Option ℕ) E} (Ok (Some n)) (Ok None) = none refl in cc)
+number_found G option rows (Some text) n only is none read = number_of G option rows text n only is (read text refl)
 
--- the number that words give an option is in the range of its parser
-in_range : (option : Text) (least most : ℕ) (rows : List Row) (text : Text) (n : ℕ) → one_of option rows ≡ Some text → Passes (parsers.Unsigned least most) text
-    → IsNumberOf option rows n → (least ≤ n) × (n ≤ most)
-in_range option least most rows text n is passes number =
-    let same : number.0 ≡ text = inside number.0 text (sym number.1 ∙ is) in
-    let takes = accepts-Accepts false (parsers.Unsigned least most) text passes in
-    let value : n ≡ digits_value 10 (without_leading_plus text) = number.3 ∙ ap (λ (t : Text). digits_value 10 (without_leading_plus t)) same in
-    (rw value takes.2, rw value takes.3)
+pub none_found : {E : Type 0} (G : List ℕ → Result ℕ E → Type 0) (option : Text) (rows : List Row) (known : Option Text) → one_of option rows ≡ known
+    → ((t : List ℕ) → known ≡ Some t → TriesOne G t (Ok None)) → one_of option rows ≡ None
+none_found G option rows None is read = is
+none_found G option rows (Some text) is read = absurd (read text refl)
 
--- the number that a value of an option spells, which has 64 bits
-pub number_spelt : (option : Text) (least most : ℕ) (rows : List Row) (text : Text) → one_of option rows ≡ Some text → Passes (parsers.Unsigned least most) text
-    → (n : ℕ) × IsNumberOf option rows n × (n < 2 ^ 64)
-number_spelt option least most rows text is passes =
-    let takes = accepts-Accepts false (parsers.Unsigned least most) text passes in
-    (digits_value 10 (without_leading_plus text), (text, is, takes.0, refl), takes.1)
+-- the number of an option is one
+pub one_number : (option : Text) (rows : List Row) (m n : ℕ) → IsNumberOf option rows m → IsNumberOf option rows n → m ≡ n
+one_number option rows m n one other =
+    let same : one.0 ≡ other.0 = inside one.0 other.0 (sym one.1 ∙ other.1) in
+    one.3 ∙ (ap (λ (t : Text). digits_value 10 (without_leading_plus t)) same ∙ sym other.3)
+
+-- a number that was read is in the range in which the option is given one
+pub read_in_range : (option : Text) (least most : ℕ) (rows : List Row) (n : ℕ) → IsNumberOf option rows n → MayBeGivenIn option least most rows → (least ≤ n) × (n ≤ most)
+read_in_range option least most rows n number (inl none) = absurd (let never : None ≡ Some number.0 = sym none ∙ number.1 in cc)
+read_in_range option least most rows n number (inr given) =
+    let same = one_number option rows n given.0 number given.1 in
+    (rw same given.2, rw same given.3)
+
+-- where it is given one, or none, something is read
+pub not_unread : {E : Type 0} (G : List ℕ → Result ℕ E → Type 0) (option : Text) (least most : ℕ) (rows : List Row) (e : E) → ReadsNumbers G
+    → (one_of option rows ≡ None → ◌≡◌ {A = Result (Option ℕ) E} (Err e) (Ok None)) → ((t : List ℕ) → one_of option rows ≡ Some t → TriesOne G t (Err e))
+    → MayBeGivenIn option least most rows → ⊥
+not_unread {E} G option least most rows e only none read (inl left_out) = let never : ◌≡◌ {A = Result (Option ℕ) E} (Err e) (Ok None) = none left_out in cc
+not_unread G option least most rows e only none read (inr given) =
+    let number = given.1 in
+    only number.0 (Err e) (read number.0 number.1) (number.2, subst (λ (n : ℕ). n < 2 ^ 64) number.3 given.4)
+
+-- the value of an option is a number of the range of its parser
+pub given_in : (option : Text) (least most : ℕ) (rows : List Row) → HasNumber option least most rows → IsGivenIn option least most rows
+given_in option least most rows has =
+    let takes = accepts-Accepts false (parsers.Unsigned least most) has.0 has.2 in
+    (digits_value 10 (without_leading_plus has.0), (has.0, has.1, takes.0, refl), takes.2, takes.3, takes.1)
+
+may_be_given_in : (option : Text) (least most : ℕ) (rows : List Row) → MayHaveNumber option least most rows → MayBeGivenIn option least most rows
+may_be_given_in option least most rows (inl none) = inl none
+may_be_given_in option least most rows (inr has) = inr (given_in option least most rows has)
+
+pub can_run : (rows : List Row) → HasAll rows → CanRun rows
+can_run rows has = record {
+  listen = subst (λ (o : Option Text). IsSome o) (sym has.listen.1) refl;
+  spool = subst (λ (o : Option Text). IsSome o) (sym has.spool.1) refl;
+  sessions = may_be_given_in (codes "sessions") 1 session_limit rows has.sessions;
+  proxies = given_in (codes "proxies") 1 proxy_limit rows has.proxies;
+  window = given_in (codes "window") 0 window_limit rows has.window;
+  server_timeout = may_be_given_in (codes "server-timeout") 1 timeout_limit rows has.server_timeout;
+  client_timeout = may_be_given_in (codes "client-timeout") 1 timeout_limit rows has.client_timeout;
+}
+
+-- the job of `check` that has the values of the words is what they ask for
+pub check_asked : (words : List Text) (rows : List Row) (job : Job) → faults words ≡ [] → named words ≡ Some (codes "check", rows) → IsCheckOf rows job → IsJobOf words job
+check_asked words rows (Legs at) none check of = absurd of
+check_asked words rows (Check cert window) none check of = (none, rows, check, of)
+check_asked words rows (Run options) none check of = absurd of
 
 -- the job of `run` that has the values of the words is what they ask for
-pub run_asked : (words : List Text) (rows : List Row) (job : Job) → faults words ≡ [] → named words ≡ Some (codes "run", rows) → HasAll rows → IsRunOf rows job → IsJobOf words job
-run_asked words rows (Legs at) none run has of = absurd of
-run_asked words rows (Check cert) none run has of = absurd of
-run_asked words rows (Run listen spool sessions proxies) none run has of =
-    let ended = in_range (codes "sessions") 1 session_limit rows has.2 sessions has.6 has.7 of.2 in
-    let beside = in_range (codes "proxies") 1 proxy_limit rows has.3 proxies has.8 has.9 of.3 in
-    (none, rows, run, of, ended.0, ended.1, beside.0, beside.1)
+pub run_asked : (words : List Text) (rows : List Row) (job : Job) → faults words ≡ [] → named words ≡ Some (codes "run", rows) → IsRunOf rows job → IsJobOf words job
+run_asked words rows (Legs at) none run of = absurd of
+run_asked words rows (Check cert window) none run of = absurd of
+run_asked words rows (Run options) none run of = (none, rows, run, of)

@@ -1,7 +1,7 @@
--- The values that words with which clap finds no fault give the options of `legs` and `run`: each row has one that the parser of its
+-- The values that words with which clap finds no fault give the options of `check`, `legs` and `run`: each row has one that the parser of its
 -- option takes, an option with a default has a row, and so has one that is wanted. clap's rules are followed from word to word; nothing
 -- of the code is in it.
-use Rattle.std.proofs.Common.{◌≡◌, ◌∙◌, inl, inr, ℕ, zero, suc, Bool, cond, not, ◌&&◌, ◌||◌, true, false, List, [], ◌∷◌, ◌++◌, drop, length, Option, Some, None, ap, codes, fold, is_some, refl, subst, sym, true≢false}
+use Rattle.std.proofs.Common.{◌≡◌, ◌∙◌, ◌⊎◌, inl, inr, ℕ, zero, suc, Bool, cond, not, ◌&&◌, ◌||◌, true, false, List, [], ◌∷◌, ◌++◌, drop, length, Option, Some, None, ap, codes, fold, is_some, refl, subst, sym, true≢false}
 use Rattle.std.specs.Option.{option_map_or}
 use Rattle.std.specs.Str.{bytes_eq, chars}
 use Rattle.std.specs.Prelude.{IfSome, ⊤, slice_get, encode_utf8, find}
@@ -22,7 +22,8 @@ use Rattle.clap.specs.declared.builder.value_parser.ValueParser.TheVariants as p
 use Rattle.clap.specs.declared.builder.value_parser.Reading.TheVariants.{AsWritten}
 use Rattle.clap.specs.declared.parser.matches.ValueSource.{ValueSource}
 use Rattle.clap.specs.declared.parser.matches.ValueSource.TheVariants.{CommandLine, DefaultValue}
-use Rattle.mcv_words.specs.Words.{at_rule, faults, legs_app, listen_rule, mcv_app, named, proxies_rule, proxy_limit, run_app, session_limit, sessions_rule, spool_rule}
+use Rattle.mcv_words.specs.Ranges.{proxy_limit, session_limit, timeout_limit, window_limit}
+use Rattle.mcv_words.specs.Words.{at_rule, cert_rule, check_app, client_timeout_rule, faults, legs_app, listen_rule, mcv_app, named, proxies_rule, run_app, server_timeout_rule, sessions_rule, spool_rule, window_rule}
 use Rattle.mcv_words.proofs.CommandIsNamed.{StopsAtCommand, none_below, none_of, some_kind, stop_of, stops_at_command}
 
 -- ---- rows
@@ -294,6 +295,26 @@ row_apart : (b c : Bool) → b || c ≡ false → (b ≡ false) × (c ≡ false)
 row_apart true c e = absurd (true≢false e)
 row_apart false c e = (refl, e)
 
+-- an option that has no row has no value
+no_value : (id : Text) (rows : List Row) → has_row id rows ≡ false → one_of id rows ≡ None
+no_value id [] none = refl
+no_value id (r ∷ rs) none =
+    let both = row_apart (bytes_eq r.id id) (has_row id rs) none in
+    rw both.0 (no_value id rs both.1)
+
+-- an option has no value, or one that its parser takes
+abbrev MayHaveValue : List Rule → Text → List Row → Type 0
+MayHaveValue c id rows = (one_of id rows ≡ None) ⊎ ((v : Text) × (one_of id rows ≡ Some v) × Suits c id v)
+
+may_have_value : (c : List Rule) (id : Text) (rows : List Row) → AreGood c rows → MayHaveValue c id rows
+may_have_value c id rows good = go (has_row id rows) refl
+  where
+    go : (b : Bool) → has_row id rows ≡ b → MayHaveValue c id rows
+    go true is =
+        let found = found_value c id rows is good in
+        inr (found.0, found.2, found.3)
+    go false is = inl (no_value id rows is)
+
 added : (id : Text) (change : Row → List Row) (missing rows : List Row) → has_row id rows ≡ false → has_row id missing ≡ true → has_row id (at_row id change missing rows) ≡ true
 added id change missing [] none new = new
 added id change missing (r ∷ rs) none new =
@@ -371,9 +392,16 @@ at_parser = parsers.Unsigned 0 18446744073709551615
 abbrev pub Passes : ValueParser → Text → Type 0
 Passes parser text = accepts false parser text ≡ true
 
--- the value of `--at`, one that its parser takes
+-- the option has a value that the parser of such numbers takes
+abbrev pub HasNumber : (name : Text) → (least most : ℕ) → List Row → Type 0
+HasNumber name least most rows = (text : Text) × (one_of name rows ≡ Some text) × Passes (parsers.Unsigned least most) text
+
+-- it has none, or one of these
+abbrev pub MayHaveNumber : (name : Text) → (least most : ℕ) → List Row → Type 0
+MayHaveNumber name least most rows = (one_of name rows ≡ None) ⊎ HasNumber name least most rows
+
 abbrev pub HasAt : List Row → Type 0
-HasAt rows = (text : Text) × (one_of (codes "at") rows ≡ Some text) × Passes at_parser text
+HasAt = HasNumber (codes "at") 0 18446744073709551615
 
 legs_given : (words : List Text) → level_fault legs [] nothing_held words false [] ≡ [] → HasAt (rows_after legs.rules [] words)
 legs_given words none =
@@ -383,6 +411,39 @@ legs_given words none =
     let last = defaulted legs.rules (codes "at") (codes "0") start refl refl (leaf_good legs tame words none).0 in
     let found = found_value legs.rules (codes "at") after last.1 last.0 in
     subst HasAt (sym (unchanged (has_row (codes "help") after) after)) (found.0, found.2, found.3)
+
+-- ---- `check`
+
+abbrev check : Shape
+check = built_leaf (inherited (built mcv_app).top check_app.top)
+
+cert_tame : IsTame check (with_index 1 (filled cert_rule))
+cert_tame [] rows none good = absurd (some_kind InvalidValue [] none)
+cert_tame (v ∷ vs) rows none good = written check.rules (codes "cert") v vs rows refl good
+
+check_window_tame : IsTame check (with_index 1 (filled window_rule))
+check_window_tame [] rows none good = absurd (some_kind InvalidValue [] none)
+check_window_tame (v ∷ vs) rows none good =
+    let taken = none_of (range_kinds 1 1 (suc (length vs))) (set_fault false (with_index 1 (filled window_rule)) (v ∷ vs) rows) none in
+    written check.rules (codes "window") v vs rows (value_passes (repeat_fault false (codes "window") rows) [] (values_fault (with_index 1 (filled window_rule)) vs) _ taken.1) good
+
+check_help : IsTame check (with_index 1 (filled help_rule))
+check_help values rows none good = absurd (no_help values rows none)
+
+abbrev pub HasWindow : List Row → Type 0
+HasWindow = HasNumber (codes "window") 0 window_limit
+
+check_given : (words : List Text) → level_fault check [] nothing_held words false [] ≡ [] → HasWindow (rows_after check.rules [] words)
+check_given words none =
+    let tame : AreTame check check.rules = (cert_tame, (check_window_tame, (check_help, tt))) in
+    let start : List Row = (settled check.rules (walk check.rules [] nothing_held words).held).rows in
+    let given : List Row = with_default start (with_index 1 (filled cert_rule)) in
+    let after : List Row = with_default given (with_index 1 (filled window_rule)) in
+    let same : given ≡ start = unchanged (has_row (codes "cert") start) start in
+    let good = subst (λ (rows : List Row). AreGood check.rules rows) (sym same) (leaf_good check tame words none).0 in
+    let last = defaulted check.rules (codes "window") (codes "0") given refl refl good in
+    let found = found_value check.rules (codes "window") after last.1 last.0 in
+    subst HasWindow (sym (unchanged (has_row (codes "help") after) after)) (found.0, found.2, found.3)
 
 -- ---- `run`
 
@@ -409,21 +470,38 @@ proxies_tame (v ∷ vs) rows none good =
     let taken = none_of (range_kinds 1 1 (suc (length vs))) (set_fault false (with_index 1 (filled proxies_rule)) (v ∷ vs) rows) none in
     written run.rules (codes "proxies") v vs rows (value_passes (repeat_fault false (codes "proxies") rows) [] (values_fault (with_index 1 (filled proxies_rule)) vs) _ taken.1) good
 
+window_tame : IsTame run (with_index 1 (filled window_rule))
+window_tame [] rows none good = absurd (some_kind InvalidValue [] none)
+window_tame (v ∷ vs) rows none good =
+    let taken = none_of (range_kinds 1 1 (suc (length vs))) (set_fault false (with_index 1 (filled window_rule)) (v ∷ vs) rows) none in
+    written run.rules (codes "window") v vs rows (value_passes (repeat_fault false (codes "window") rows) [] (values_fault (with_index 1 (filled window_rule)) vs) _ taken.1) good
+
+server_timeout_tame : IsTame run (with_index 1 (filled server_timeout_rule))
+server_timeout_tame [] rows none good = absurd (some_kind InvalidValue [] none)
+server_timeout_tame (v ∷ vs) rows none good =
+    let taken = none_of (range_kinds 1 1 (suc (length vs))) (set_fault false (with_index 1 (filled server_timeout_rule)) (v ∷ vs) rows) none in
+    written run.rules (codes "server-timeout") v vs rows
+    (value_passes (repeat_fault false (codes "server-timeout") rows) [] (values_fault (with_index 1 (filled server_timeout_rule)) vs) _ taken.1) good
+
+client_timeout_tame : IsTame run (with_index 1 (filled client_timeout_rule))
+client_timeout_tame [] rows none good = absurd (some_kind InvalidValue [] none)
+client_timeout_tame (v ∷ vs) rows none good =
+    let taken = none_of (range_kinds 1 1 (suc (length vs))) (set_fault false (with_index 1 (filled client_timeout_rule)) (v ∷ vs) rows) none in
+    written run.rules (codes "client-timeout") v vs rows
+    (value_passes (repeat_fault false (codes "client-timeout") rows) [] (values_fault (with_index 1 (filled client_timeout_rule)) vs) _ taken.1) good
+
 run_help : IsTame run (with_index 1 (filled help_rule))
 run_help values rows none good = absurd (no_help values rows none)
 
-abbrev pub sessions_parser : ValueParser
-sessions_parser = parsers.Unsigned 1 session_limit
-
-abbrev pub proxies_parser : ValueParser
-proxies_parser = parsers.Unsigned 1 proxy_limit
-
--- the values of the options of `run`, the numbers ones that their parsers take
-abbrev pub HasAll : List Row → Type 0
-HasAll rows = (listen : Text) × (spool : Text) × (sessions : Text) × (proxies : Text)
-    × (first_of (codes "listen") rows ≡ Some listen) × (first_of (codes "spool") rows ≡ Some spool)
-    × (one_of (codes "sessions") rows ≡ Some sessions) × Passes sessions_parser sessions
-    × (one_of (codes "proxies") rows ≡ Some proxies) × Passes proxies_parser proxies
+-- the values of the options of `run`
+pub record HasAll (rows : List Row) : Type 0 where
+  pub listen : (text : Text) × (first_of (codes "listen") rows ≡ Some text)
+  pub spool : (text : Text) × (first_of (codes "spool") rows ≡ Some text)
+  pub sessions : MayHaveNumber (codes "sessions") 1 session_limit rows
+  pub proxies : HasNumber (codes "proxies") 1 proxy_limit rows
+  pub window : HasNumber (codes "window") 0 window_limit rows
+  pub server_timeout : MayHaveNumber (codes "server-timeout") 1 timeout_limit rows
+  pub client_timeout : MayHaveNumber (codes "client-timeout") 1 timeout_limit rows
 
 both_given : (a b : Bool) → cond (not a || (not b || false)) (MissingRequiredArgument ∷ []) [] ≡ [] → (a ≡ true) × (b ≡ true)
 both_given true true e = (refl, refl)
@@ -432,23 +510,36 @@ both_given false b e = absurd (some_kind MissingRequiredArgument [] e)
 
 run_given : (words : List Text) → level_fault run [] nothing_held words false [] ≡ [] → HasAll (rows_after run.rules [] words)
 run_given words none =
-    let tame : AreTame run run.rules = (listen_tame, (spool_tame, (sessions_tame, (proxies_tame, (run_help, tt))))) in
+    let tame : AreTame run run.rules = (listen_tame, (spool_tame, (sessions_tame, (proxies_tame, (window_tame, (server_timeout_tame, (client_timeout_tame, (run_help, tt)))))))) in
     let start : List Row = (settled run.rules (walk run.rules [] nothing_held words).held).rows in
     let listened : List Row = with_default start (with_index 1 (filled listen_rule)) in
     let spooled : List Row = with_default listened (with_index 1 (filled spool_rule)) in
     let counted : List Row = with_default spooled (with_index 1 (filled sessions_rule)) in
-    let after : List Row = with_default counted (with_index 1 (filled proxies_rule)) in
-    let same : spooled ≡ start = unchanged (has_row (codes "spool") listened) listened ∙ unchanged (has_row (codes "listen") start) start in
+    let beside : List Row = with_default counted (with_index 1 (filled proxies_rule)) in
+    let all : List Row = with_default beside (with_index 1 (filled window_rule)) in
+    let served : List Row = with_default all (with_index 1 (filled server_timeout_rule)) in
+    let after : List Row = with_default served (with_index 1 (filled client_timeout_rule)) in
+    let same : counted ≡ start = unchanged (has_row (codes "sessions") spooled) spooled ∙ (unchanged (has_row (codes "spool") listened) listened ∙ unchanged (has_row (codes "listen") start) start) in
     let leaf = leaf_good run tame words none in
-    let first = defaulted run.rules (codes "sessions") (codes "1000000000") spooled refl refl (subst (λ (rows : List Row). AreGood run.rules rows) (sym same) leaf.0) in
-    let last = defaulted run.rules (codes "proxies") (codes "1") counted refl refl first.0 in
-    let ended : rows_after run.rules [] words ≡ after = unchanged (has_row (codes "help") after) after in
-    let both = both_given (is_given (codes "listen") after) (is_given (codes "spool") after) (subst (λ (rows : List Row). check_fault run rows false ≡ []) ended leaf.1) in
-    let listen = found_value run.rules (codes "listen") after (given_has (codes "listen") after both.0) last.0 in
-    let spool = found_value run.rules (codes "spool") after (given_has (codes "spool") after both.1) last.0 in
-    let sessions = found_value run.rules (codes "sessions") after (kept (codes "sessions") (codes "proxies") (codes "1") counted first.1) last.0 in
-    let proxies = found_value run.rules (codes "proxies") after last.1 last.0 in
-    subst HasAll (sym ended) (listen.0, spool.0, sessions.0, proxies.0, listen.1, spool.1, sessions.2, sessions.3, proxies.2, proxies.3)
+    let first = defaulted run.rules (codes "proxies") (codes "1") counted refl refl (subst (λ (rows : List Row). AreGood run.rules rows) (sym same) leaf.0) in
+    let last = defaulted run.rules (codes "window") (codes "0") beside refl refl first.0 in
+    let ended : rows_after run.rules [] words ≡ all =
+    unchanged (has_row (codes "help") after) after ∙ (unchanged (has_row (codes "client-timeout") served) served ∙ unchanged (has_row (codes "server-timeout") all) all) in
+    let both = both_given (is_given (codes "listen") all) (is_given (codes "spool") all) (subst (λ (rows : List Row). check_fault run rows false ≡ []) ended leaf.1) in
+    let listen = found_value run.rules (codes "listen") all (given_has (codes "listen") all both.0) last.0 in
+    let spool = found_value run.rules (codes "spool") all (given_has (codes "spool") all both.1) last.0 in
+    let proxies = found_value run.rules (codes "proxies") all (kept (codes "proxies") (codes "window") (codes "0") beside first.1) last.0 in
+    let window = found_value run.rules (codes "window") all last.1 last.0 in
+    subst HasAll (sym ended)
+    (record {
+      listen = (listen.0, listen.1);
+      spool = (spool.0, spool.1);
+      sessions = may_have_value run.rules (codes "sessions") all last.0;
+      proxies = (proxies.0, proxies.2, proxies.3);
+      window = (window.0, window.2, window.3);
+      server_timeout = may_have_value run.rules (codes "server-timeout") all last.0;
+      client_timeout = may_have_value run.rules (codes "client-timeout") all last.0;
+    })
 
 -- ---- all words
 
@@ -478,6 +569,15 @@ at_legs (Some p) rows (inr (inl is)) at none =
     let same : rows_after legs.rules [] p.1 ≡ rows = rows_there (codes "legs") (rows_after legs.rules [] p.1) rows (at_name (codes "legs") (codes "legs") p rows is at) in
     subst HasAt same (legs_given p.1 (no_fault_at (codes "legs") p is none))
 
+at_check : (stop : Option (Text × List Text)) (rows : List Row) → StopsAtCommand stop → entered (built mcv_app) stop ≡ Some (codes "check", rows)
+    → entered_fault (built mcv_app) stop ≡ [] → HasWindow rows
+at_check None rows stops at none = absurd (cc)
+at_check (Some p) rows (inr (inl other)) at none = absurd (name_apart (codes "legs") (codes "check") _ rows refl refl (at_name (codes "check") (codes "legs") p rows other at))
+at_check (Some p) rows (inr (inr other)) at none = absurd (name_apart (codes "run") (codes "check") _ rows refl refl (at_name (codes "check") (codes "run") p rows other at))
+at_check (Some p) rows (inl is) at none =
+    let same : rows_after check.rules [] p.1 ≡ rows = rows_there (codes "check") (rows_after check.rules [] p.1) rows (at_name (codes "check") (codes "check") p rows is at) in
+    subst HasWindow same (check_given p.1 (no_fault_at (codes "check") p is none))
+
 at_run : (stop : Option (Text × List Text)) (rows : List Row) → StopsAtCommand stop → entered (built mcv_app) stop ≡ Some (codes "run", rows)
     → entered_fault (built mcv_app) stop ≡ [] → HasAll rows
 at_run None rows stops at none = absurd (cc)
@@ -490,6 +590,10 @@ at_run (Some p) rows (inr (inr is)) at none =
 -- words that clap takes and that name `legs` give `--at` a value
 pub legs_values : (words : List Text) (rows : List Row) → faults words ≡ [] → named words ≡ Some (codes "legs", rows) → HasAt rows
 legs_values words rows none is = at_legs (stop_of words) rows (stops_at_command words none) is (none_below words none)
+
+-- .. and those that name `check` give `--window` one
+pub check_values : (words : List Text) (rows : List Row) → faults words ≡ [] → named words ≡ Some (codes "check", rows) → HasWindow rows
+check_values words rows none is = at_check (stop_of words) rows (stops_at_command words none) is (none_below words none)
 
 -- .. and those that name `run` give each of its options one
 pub run_values : (words : List Text) (rows : List Row) → faults words ≡ [] → named words ≡ Some (codes "run", rows) → HasAll rows

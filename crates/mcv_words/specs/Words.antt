@@ -1,12 +1,19 @@
 -- What the words of a command line ask for. The words are those of the shell, the program's name
 -- first; how they are read is clap's: `fault_of` lists the kinds of fault that it finds with words,
 -- and `subcommand_of` the subcommand that they name.
-use Rattle.std.specs.Prelude.{◌≡◌, ◌≢◌, ◌≤◌, ◌⊎◌, ⊤, ℕ, true, List, [], ◌∷◌, Option, Some, codes, option_map}
+use Rattle.std.specs.Prelude.{◌≡◌, ◌≢◌, ◌<◌, ◌≤◌, ◌^◌, ◌⊎◌, ⊤, ℕ, true, List, [], ◌∷◌, Option, None, Some, IsSome, codes, fold, option_map}
 use Rattle.std.specs.Str.Parse.{IsNumeral, digits_value, without_leading_plus}
 use Rattle.clap.specs.Words.{App, IsAmong, Kinds, Row, Rule, Text, fault_of, first_of, new_app, new_rule, one_of, subcommand_of, with_rule, with_subcommand}
 use Rattle.clap.specs.declared.builder.value_parser.ValueParser.TheVariants as parsers
 use Rattle.clap.specs.declared.error.kind.ErrorKind.{ErrorKind}
 use Rattle.clap.specs.declared.error.kind.ErrorKind.TheVariants.{DisplayHelp, DisplayVersion, OutOfMemory}
+use Rattle.mcv_words.specs.Ranges.{proxy_limit, session_limit, timeout_limit, window_limit}
+use Rattle.mcv_words.specs.declared.options.ClientTimeout.{ClientTimeout}
+use Rattle.mcv_words.specs.declared.options.RunOptions.{RunOptions}
+use Rattle.mcv_words.specs.declared.options.ServerTimeout.{ServerTimeout}
+use Rattle.mcv_words.specs.declared.options.Sessions.{Sessions}
+use Rattle.mcv_words.specs.declared.options.Settings.{Settings}
+use Rattle.mcv_words.specs.declared.options.Window.{Window}
 use Rattle.mcv_words.specs.declared.words.Job.{Job}
 use Rattle.mcv_words.specs.declared.words.Job.TheVariants.{Legs, Check, Run}
 use Rattle.mcv_words.specs.declared.words.LineFault.{LineFault}
@@ -36,9 +43,17 @@ legs_app = with_rule (new_app (codes "legs")) at_rule
 abbrev pub cert_rule : Rule
 cert_rule = option_rule (codes "cert")
 
--- `check [--cert FILE]`
+-- `--NAME N`: a number in a range
+abbrev pub number_rule : Text → (least most : ℕ) → Rule
+number_rule name least most = record (option_rule name) { parser = Some (parsers.Unsigned least most) }
+
+-- `--window SECONDS`: a number from 0 to 4294967295, and 0 where it isn't given
+abbrev pub window_rule : Rule
+window_rule = record (number_rule (codes "window") 0 window_limit) { defaults = codes "0" ∷ [] }
+
+-- `check [--cert FILE] [--window SECONDS]`
 abbrev pub check_app : App
-check_app = with_rule (new_app (codes "check")) cert_rule
+check_app = with_rule (with_rule (new_app (codes "check")) cert_rule) window_rule
 
 -- `--listen ADDRESS`, `--spool FILE`: wanted
 abbrev pub listen_rule : Rule
@@ -47,31 +62,28 @@ listen_rule = record (option_rule (codes "listen")) { required = true }
 abbrev pub spool_rule : Rule
 spool_rule = record (option_rule (codes "spool")) { required = true }
 
--- the most sessions of a run, and how many there are where their number isn't given
-abbrev pub session_limit : ℕ
-session_limit = 1000000000
-
--- `--sessions N`: a number from 1 to 1000000000, and 1000000000 where it isn't given
+-- `--sessions N`: a number from 1 to 1000000000
 abbrev pub sessions_rule : Rule
-sessions_rule = record (option_rule (codes "sessions")) {
-  parser = Some (parsers.Unsigned 1 session_limit);
-  defaults = codes "1000000000" ∷ [];
-}
-
--- the most proxies of a run
-abbrev pub proxy_limit : ℕ
-proxy_limit = 64
+sessions_rule = number_rule (codes "sessions") 1 session_limit
 
 -- `--proxies N`: a number from 1 to 64, and 1 where it isn't given
 abbrev pub proxies_rule : Rule
-proxies_rule = record (option_rule (codes "proxies")) {
-  parser = Some (parsers.Unsigned 1 proxy_limit);
-  defaults = codes "1" ∷ [];
-}
+proxies_rule = record (number_rule (codes "proxies") 1 proxy_limit) { defaults = codes "1" ∷ [] }
 
--- `run --listen ADDRESS --spool FILE [--sessions N] [--proxies N]`
+-- `--server-timeout MS`, `--client-timeout MS`: a number of milliseconds from 1 to 3600000
+abbrev pub server_timeout_rule : Rule
+server_timeout_rule = number_rule (codes "server-timeout") 1 timeout_limit
+
+abbrev pub client_timeout_rule : Rule
+client_timeout_rule = number_rule (codes "client-timeout") 1 timeout_limit
+
+-- the options of `run`, in the order of its help
+abbrev pub run_rules : List Rule
+run_rules = listen_rule ∷ spool_rule ∷ sessions_rule ∷ proxies_rule ∷ window_rule ∷ server_timeout_rule ∷ client_timeout_rule ∷ []
+
+-- `run --listen ADDRESS --spool FILE` with the options whose rules stand above
 abbrev pub run_app : App
-run_app = with_rule (with_rule (with_rule (with_rule (new_app (codes "run")) listen_rule) spool_rule) sessions_rule) proxies_rule
+run_app = fold with_rule (new_app (codes "run")) run_rules
 
 -- a command that shows its version where that is asked for
 abbrev pub with_version : App → App
@@ -81,7 +93,7 @@ with_version app = record app { top = record app.top { has_version = true } }
 abbrev pub wanting_a_command : App → App
 wanting_a_command app = record app { top = record app.top { subcommand_required = true } }
 
--- `mcv check [--cert FILE]`, `mcv legs [--at SECONDS]` and `mcv run --listen ADDRESS --spool FILE [--sessions N] [--proxies N]`; `mcv --version`
+-- `mcv check`, `mcv legs` and `mcv run` with their options; `mcv --version`
 abbrev pub mcv_app : App
 mcv_app = with_subcommand (with_subcommand (with_subcommand (wanting_a_command (with_version (new_app (codes "mcv")))) check_app.top) legs_app.top) run_app.top
 
@@ -100,31 +112,81 @@ abbrev pub IsNumberOf : (option : Text) → List Row → ℕ → Type 0
 IsNumberOf option rows n = (text : Text) × (one_of option rows ≡ Some text) × IsNumeral 10 (without_leading_plus text)
     × (n ≡ digits_value 10 (without_leading_plus text))
 
--- clap takes the words, and they name the command `check` with this value of `--cert`, or none
-abbrev pub AsksCheck : List Text → Option Text → Type 0
-AsksCheck words cert = (faults words ≡ []) × (rows : List Row) × (named words ≡ Some (codes "check", rows)) × (cert ≡ first_of (codes "cert") rows)
+-- the value of `--cert`, or none, and that of `--window`
+abbrev pub HasCheckValues : List Row → (cert : Option Text) → Window → Type 0
+HasCheckValues rows cert window = (cert ≡ first_of (codes "cert") rows) × IsNumberOf (codes "window") rows window.seconds
 
--- the values of `--listen`, `--spool`, `--sessions` and `--proxies`
-abbrev pub HasRunValues : List Row → (listen spool : Text) → (sessions proxies : ℕ) → Type 0
-HasRunValues rows listen spool sessions proxies = (first_of (codes "listen") rows ≡ Some listen) × (first_of (codes "spool") rows ≡ Some spool)
-    × IsNumberOf (codes "sessions") rows sessions × IsNumberOf (codes "proxies") rows proxies
+-- clap takes the words, and they name the command `check` with these values
+abbrev pub AsksCheck : List Text → (cert : Option Text) → Window → Type 0
+AsksCheck words cert window = (faults words ≡ []) × (rows : List Row) × (named words ≡ Some (codes "check", rows)) × HasCheckValues rows cert window
 
--- clap takes the words, and they name the command `run` with these values; the numbers of sessions and of proxies are in their ranges
-abbrev pub AsksRun : List Text → (listen spool : Text) → (sessions proxies : ℕ) → Type 0
-AsksRun words listen spool sessions proxies = (faults words ≡ []) × (rows : List Row) × (named words ≡ Some (codes "run", rows))
-    × HasRunValues rows listen spool sessions proxies × (1 ≤ sessions) × (sessions ≤ session_limit) × (1 ≤ proxies) × (proxies ≤ proxy_limit)
+-- the value of an option that may be left out: none, or a number
+abbrev pub IsNumberIfGiven : (option : Text) → List Row → Option ℕ → Type 0
+IsNumberIfGiven option rows None = one_of option rows ≡ None
+IsNumberIfGiven option rows (Some n) = IsNumberOf option rows n
+
+-- the numbers that the options of `run` have, none where one wasn't given
+pub record HasSettings (rows : List Row) (s : Settings) : Type 0 where
+  pub sessions : IsNumberIfGiven (codes "sessions") rows (option_map (λ (n : Sessions). n.count) s.sessions)
+  pub proxies : IsNumberOf (codes "proxies") rows s.proxies.count
+  pub window : IsNumberOf (codes "window") rows s.window.seconds
+  pub server_timeout : IsNumberIfGiven (codes "server-timeout") rows (option_map (λ (t : ServerTimeout). t.millis) s.server_timeout)
+  pub client_timeout : IsNumberIfGiven (codes "client-timeout") rows (option_map (λ (t : ClientTimeout). t.millis) s.client_timeout)
+
+-- what `run` is asked for: the address, the name of the spool's file, and the numbers, each of which is in its range by its type
+pub record RunOrder : Type 0 where
+  pub listen : Text
+  pub spool : Text
+  pub settings : Settings
+
+abbrev pub order_of : RunOptions → RunOrder
+order_of o = record { listen = o.listen.now; spool = o.spool.now; settings = o.settings }
+
+-- the values of the options of `run`
+pub record HasRunValues (rows : List Row) (order : RunOrder) : Type 0 where
+  pub listen : first_of (codes "listen") rows ≡ Some order.listen
+  pub spool : first_of (codes "spool") rows ≡ Some order.spool
+  pub settings : HasSettings rows order.settings
+
+-- clap takes the words, and they name the command `run` with these values
+abbrev pub AsksRun : List Text → RunOrder → Type 0
+AsksRun words order = (faults words ≡ []) × (rows : List Row) × (named words ≡ Some (codes "run", rows)) × HasRunValues rows order
+
+-- the job of `check` with these values
+abbrev pub IsCheckOf : List Row → Job → Type 0
+IsCheckOf rows (Legs at) = ⊥
+IsCheckOf rows (Check cert window) = HasCheckValues rows (option_map (λ name. name.now) cert) window
+IsCheckOf rows (Run options) = ⊥
 
 -- the job of `run` with these values
 abbrev pub IsRunOf : List Row → Job → Type 0
 IsRunOf rows (Legs at) = ⊥
-IsRunOf rows (Check cert) = ⊥
-IsRunOf rows (Run listen spool sessions proxies) = HasRunValues rows listen.now spool.now sessions proxies
+IsRunOf rows (Check cert window) = ⊥
+IsRunOf rows (Run options) = HasRunValues rows (order_of options)
+
+-- the option is given a number of this range
+abbrev pub IsGivenIn : (option : Text) → (least most : ℕ) → List Row → Type 0
+IsGivenIn option least most rows = (n : ℕ) × IsNumberOf option rows n × (least ≤ n) × (n ≤ most) × (n < 2 ^ 64)
+
+-- it is given none, or one of this range
+abbrev pub MayBeGivenIn : (option : Text) → (least most : ℕ) → List Row → Type 0
+MayBeGivenIn option least most rows = (one_of option rows ≡ None) ⊎ IsGivenIn option least most rows
+
+-- the options of `run` that are wanted are given, and each number is in its range
+pub record CanRun (rows : List Row) : Type 0 where
+  pub listen : IsSome (first_of (codes "listen") rows)
+  pub spool : IsSome (first_of (codes "spool") rows)
+  pub sessions : MayBeGivenIn (codes "sessions") 1 session_limit rows
+  pub proxies : IsGivenIn (codes "proxies") 1 proxy_limit rows
+  pub window : IsGivenIn (codes "window") 0 window_limit rows
+  pub server_timeout : MayBeGivenIn (codes "server-timeout") 1 timeout_limit rows
+  pub client_timeout : MayBeGivenIn (codes "client-timeout") 1 timeout_limit rows
 
 -- clap takes the words, and they name the job's command with the values that the job has
 abbrev pub IsJobOf : List Text → Job → Type 0
-IsJobOf words (Check cert) = AsksCheck words (option_map (λ name. name.now) cert)
+IsJobOf words (Check cert window) = AsksCheck words (option_map (λ name. name.now) cert) window
 IsJobOf words (Legs at) = (faults words ≡ []) × (rows : List Row) × (named words ≡ Some (codes "legs", rows)) × IsNumberOf (codes "at") rows at.0
-IsJobOf words (Run listen spool sessions proxies) = AsksRun words listen.now spool.now sessions proxies
+IsJobOf words (Run options) = AsksRun words (order_of options)
 
 -- why words ask for no job: clap finds a fault with them that isn't the wish for help or for the
 -- version; memory ran out; they ask for help; they ask for the version

@@ -13,7 +13,8 @@ key `a` reach? Serve clients at port 5000.
 
   mcv check < mcrouter.json
   (echo 'delete a'; cat mcrouter.json) | mcv legs
-  mcv run --listen 127.0.0.1:5000 --spool mcv.spool < mcrouter.json
+  mcv run --listen 127.0.0.1:5000 --spool mcv.spool --server-timeout 1000 \\
+    < mcrouter.json
 
 Exit status:
   0  done, or help or the version was asked for
@@ -38,8 +39,8 @@ configuration as JSON:
   {\"pools\": {\"A\": {\"servers\": [\"a:11211\"]}}, \"route\": \"PoolRoute|A\"}
 
 The request is an operation, one space and a key. The operations are get, gets,
-set, add, replace, append, prepend, cas, delete and touch. The route handles
-that are read are PoolRoute, NullRoute, ErrorRoute, AllSyncRoute,
+set, add, replace, append, prepend, cas, delete, touch, incr and decr. The route
+handles that are read are PoolRoute, NullRoute, ErrorRoute, AllSyncRoute,
 AllInitialRoute, AllAsyncRoute, FailoverRoute, MissFailoverRoute, WarmUpRoute,
 MigrateRoute, PrefixSelectorRoute and OperationSelectorRoute.
 
@@ -72,16 +73,20 @@ pub(crate) const CHECK_ABOUT: &str = "Decides whether a configuration can lose a
 
 pub(crate) const CERT: &str = "A certificate in place of one that mcv makes";
 
+pub(crate) const WINDOW: &str = "How many seconds may lie between a delete and a
+get, from 0 to 4294967295";
+
 pub(crate) const CHECK_FORM: &str =
     "Standard input has the configuration as JSON; `mcv legs --help` says which route
 handles are read. A configuration is covered if at each moment at which a delete
-has an answer that isn't an error, every server from which a get or gets of the
-key could be answered has been sent a delete. That is decided for all keys, all
-choices of a hash, and all moments: before, in and after each migration. A get
-and a delete are judged at one stage of each migration: nothing is said of a get
-that comes at a later stage than the delete. Nor is it said that a server takes
-what it is sent, nor anything of values that are stored later, of gets by
-another route, or of where mcrouter differs from mcv's rules.
+has an answer that isn't an error, every server from which a get, gets, incr or
+decr of the key could be answered has been sent a delete. That is decided for
+all keys, all choices of a hash, and all moments: before, in and after each
+migration. A read and a delete are judged at one stage of each migration, and
+with `--window` at stages too that are no more seconds apart than it says: of
+stages farther apart nothing is said. Nor is it said that a server takes what it
+is sent, nor anything of values that are stored later, of reads by another
+route, or of where mcrouter differs from mcv's rules.
 
 Where it is covered, standard output has the number of pairs of a certificate,
 and then the certificate, which says for each server that can be read why a
@@ -104,6 +109,9 @@ the delete:
                  and so on, and each has there the server that is at index I
                  of the leg that can be read
 
+With a window over 0 the first line is `mcv-cert 2` with the window, and a line
+has two numbers of moments: at the delete, and behind it at the get.
+
 Any certificate can be checked again, also one that another program made:
 
   mcv check < mcrouter.json > verdict && tail -n +2 verdict > mcrouter.cert
@@ -113,8 +121,8 @@ Standard output has `covered` and the number alone then. Where the configuration
 isn't covered, the certificate is refused, and the exit status is 5.
 
 Where it isn't covered and no certificate is given, the exit status is 3, and
-standard output has a finding: a key, and answers by which a get reads it from
-the server named after a delete of it was acknowledged that had never been sent
+standard output has a finding: a key, and answers by which it is read from the
+server named after a delete of it was acknowledged that had never been sent
 there:
 
   lost b:11211
@@ -128,10 +136,12 @@ there:
 `route` is the number of the route. `class` has the word with which the keys
 begin behind their routing prefix, and none for keys with no such word. `era` is
 the number of moments that migrations have passed; where one starts at 0, no
-moment has era 0, which is judged all the same. For each hash over N servers, N
+moment has era 0, which is judged all the same. With a window it has two: the
+delete's, and behind it the get's. For each hash over N servers, N
 over 1, a line `index FUNC/SALT/N=I` behind the key says which index I, from 0,
-it has to pick. `get`, or `gets` where get can't be answered from that place of
-the server, has for each leg that answered its place and `hit`, `miss` or
+it has to pick. `get`, or the first of `gets`, `incr` and `decr` that can be
+answered from that place of the server where get can't, has for each leg that
+answered its place and `hit`, `miss` or `error`; of incr and decr `number` or
 `error`. `delete` has the places of the legs that answered `deleted` before the
 reply, and `-` where the reply waits for none.
 
@@ -149,6 +159,7 @@ as `mcv: certificate fault NUMBER`:
   3  a leg that not every delete that has a reply has sent
   4  another hash, number of legs or server than the line says
   5  `never`, where a delete can be acknowledged
+  7  the certificate is for another window
 
 A configuration that isn't read is reported as
 `mcv: configuration NUMBER at PATH`: `mcv legs --help` has the numbers.";
@@ -160,18 +171,26 @@ pub(crate) const LISTEN: &str = "The address at which clients connect, as HOST:P
 pub(crate) const SPOOL: &str = "The file that keeps deletes which wait for a server";
 
 pub(crate) const SESSIONS: &str = "After how many sessions the program ends,
-from 1 to 1000000000";
+from 1 to 1000000000; without it, after none";
 
 pub(crate) const PROXIES: &str = "How many proxies run side by side,
 from 1 to 64";
 
+pub(crate) const SERVER_TIMEOUT: &str = "How many milliseconds a server may take,
+from 1 to 3600000; without it, any time";
+
+pub(crate) const CLIENT_TIMEOUT: &str = "How many milliseconds a client may send or
+take nothing, from 1 to 3600000; without it, any";
+
 pub(crate) const RUN_FORM: &str =
     "Standard input has the configuration as JSON; `mcv legs --help` says which route
-handles are read. It is judged first, as by `mcv check`: where it can lose a
-delete, standard output has the finding and the exit status is 3. Only then is
-the address bound, and the spool file opened, or made where there is none.
+handles are read. It is judged first, as by `mcv check` with the same window:
+where it can lose a delete, standard output has the finding and the exit status
+is 3. Only then is the address bound, and the spool file opened, or made where
+there is none.
 
-  mcv run --listen 127.0.0.1:5000 --spool mcv.spool < mcrouter.json
+  mcv run --listen 127.0.0.1:5000 --spool mcv.spool --server-timeout 1000 \\
+    < mcrouter.json
 
 Clients send requests of memcached's text protocol to the address. Standard
 output has one line when they can connect, and one at the end:
@@ -188,6 +207,14 @@ Each proxy has its own connections to every server; clients are dealt out to
 them one after another. Have as many as the machine has processors. With more
 than one, requests of different clients reach a server in no order, as with
 mcrouter's `--num-proxies`.
+
+A server that doesn't reply in its time has failed: the connection is closed,
+what it was asked isn't sent again at once (a delete goes to the spool), and
+after three failures in a row it is sent nothing until it answers a probe. It
+may still perform what it was asked, also behind a later delete. Without
+`--server-timeout` a server that takes connections and never answers keeps its
+clients waiting, and in time those of all servers: a line on standard error says
+so at the start.
 
 Exit status:
   0  ended, or help was asked for

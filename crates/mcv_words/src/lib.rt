@@ -1,8 +1,12 @@
 //! The words of the command line: `read_words` says what they ask for (`Job`), or why they ask for nothing
-//! (`LineFault`).
+//! (`LineFault`). What `run` is asked for is one value (`RunOptions`), whose numbers are in their ranges.
 #![tactic(auto)]
 
 mod help;
+mod options;
 mod words;
 
+pub use options::{
+    ClientTimeout, InRange, Proxies, RunOptions, ServerTimeout, Sessions, Settings, Window,
+};
 pub use words::{Job, LineFault, read_words};

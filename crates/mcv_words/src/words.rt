@@ -1,15 +1,19 @@
 //! The command line: its commands, as clap reads them. What words ask for is `IsJobOf`, and why they ask for nothing
 //! `IsLineFault`.
 
-ghost use Rattle.std.specs.Prelude.{◌≡◌, ◌<◌, ◌^◌, ℕ, false, IfOk, IfErr, IfSome, IsSome, map};
+ghost use Rattle.std.specs.Prelude.{◌≡◌, codes, false, option_map, IfOk, IfErr, IsOk, map};
 ghost use Rattle.clap.specs.Words.{Text, app_of, found_of, kind_of, rows_of, rule_of};
 ghost use Rattle.clap.specs.declared.builder.command.Command.TheViews.{out-Command as fields_of};
-ghost use Rattle.mcv_words.specs.Words.{at_rule, cert_rule, check_app, legs_app, listen_rule, mcv_app, proxies_rule, run_app, sessions_rule, spool_rule, line_fault_number, HasRunValues, IsFaultOfKind, IsJobOf, IsLineFault, IsRunOf};
+ghost use Rattle.mcv_words.specs.Ranges.{window_limit};
+ghost use Rattle.mcv_words.specs.Words.{at_rule, cert_rule, check_app, client_timeout_rule, legs_app, listen_rule, mcv_app, proxies_rule, run_app, server_timeout_rule, sessions_rule, spool_rule, window_rule, line_fault_number, CanRun, IsCheckOf, IsFaultOfKind, IsGivenIn, IsJobOf, IsLineFault, IsNumberIfGiven, IsRunOf, MayBeGivenIn};
 ghost use Rattle.mcv_words.specs.declared.words.LineFault.TheVariants.{Memory as out_of_memory};
 
 use crate::help::{
-    ABOUT, AT, CERT, CHECK_ABOUT, CHECK_FORM, EXAMPLE, LEGS_ABOUT, LEGS_FORM, LISTEN, PROXIES,
-    RUN_ABOUT, RUN_FORM, SESSIONS, SPOOL,
+    ABOUT, AT, CERT, CHECK_ABOUT, CHECK_FORM, CLIENT_TIMEOUT, EXAMPLE, LEGS_ABOUT, LEGS_FORM,
+    LISTEN, PROXIES, RUN_ABOUT, RUN_FORM, SERVER_TIMEOUT, SESSIONS, SPOOL, WINDOW,
+};
+use crate::options::{
+    ClientTimeout, InRange, Proxies, RunOptions, ServerTimeout, Sessions, Settings, Window,
 };
 use clap::builder::ValueParser;
 use clap::error::ErrorKind;
@@ -25,18 +29,13 @@ pub enum Job<'a> {
     Legs {
         at: Moment,
     },
-    /// To judge a configuration, by the certificate in the file of this name where one is given.
+    /// To judge a configuration within this window, by the certificate in the file of this name where one is given.
     Check {
         cert: Option<&'a str>,
+        window: Window,
     },
-    /// To serve clients at the address, with the spool in the file of this name, until so many sessions have ended, by so
-    /// many proxies side by side.
-    Run {
-        listen: &'a str,
-        spool: &'a str,
-        sessions: u64,
-        proxies: u64,
-    },
+    /// To serve clients.
+    Run(RunOptions<'a>),
 }
 
 /// Why there is nothing to do.
@@ -109,15 +108,28 @@ fn cert_option<'a>(alloc: Global) -> Arg<'a>
         .help(CERT)
 }
 
+fn window_option<'a>(alloc: Global) -> Arg<'a>
+    ensures rule { rule_of result ≡ window_rule }
+    ensures local { result.global ≡ false }
+{
+    Arg::new(alloc, "window")
+        .long("window")
+        .value_name("SECONDS")
+        .value_parser(ValueParser::unsigned(0, 4_294_967_295))
+        .default_value("0")
+        .help(WINDOW)
+}
+
 fn check_command<'a>(alloc: Global) -> Result<Command<'a>, AllocError>
     ensures app { IfOk result (λ c. app_of c ≡ check_app) }
     ensures local { IfOk result (λ c. (fields_of c).has_globals ≡ false) }
 {
     Command::new(alloc, "check")
         .about(CHECK_ABOUT)
-        .override_usage("mcv check [--cert FILE] < FILE")
+        .override_usage("mcv check [--cert FILE] [--window SECONDS] < FILE")
         .after_help(CHECK_FORM)
-        .arg(cert_option(alloc))
+        .arg(cert_option(alloc))?
+        .arg(window_option(alloc))
 }
 
 fn listen_option<'a>(alloc: Global) -> Arg<'a>
@@ -150,7 +162,6 @@ fn sessions_option<'a>(alloc: Global) -> Arg<'a>
         .long("sessions")
         .value_name("N")
         .value_parser(ValueParser::unsigned(1, 1_000_000_000))
-        .default_value("1000000000")
         .help(SESSIONS)
 }
 
@@ -166,18 +177,43 @@ fn proxies_option<'a>(alloc: Global) -> Arg<'a>
         .help(PROXIES)
 }
 
+fn server_timeout_option<'a>(alloc: Global) -> Arg<'a>
+    ensures rule { rule_of result ≡ server_timeout_rule }
+    ensures local { result.global ≡ false }
+{
+    Arg::new(alloc, "server-timeout")
+        .long("server-timeout")
+        .value_name("MS")
+        .value_parser(ValueParser::unsigned(1, 3_600_000))
+        .help(SERVER_TIMEOUT)
+}
+
+fn client_timeout_option<'a>(alloc: Global) -> Arg<'a>
+    ensures rule { rule_of result ≡ client_timeout_rule }
+    ensures local { result.global ≡ false }
+{
+    Arg::new(alloc, "client-timeout")
+        .long("client-timeout")
+        .value_name("MS")
+        .value_parser(ValueParser::unsigned(1, 3_600_000))
+        .help(CLIENT_TIMEOUT)
+}
+
 fn run_command<'a>(alloc: Global) -> Result<Command<'a>, AllocError>
     ensures app { IfOk result (λ c. app_of c ≡ run_app) }
     ensures local { IfOk result (λ c. (fields_of c).has_globals ≡ false) }
 {
     Command::new(alloc, "run")
         .about(RUN_ABOUT)
-        .override_usage("mcv run --listen ADDRESS --spool FILE [--sessions N] [--proxies N] < FILE")
+        .override_usage("mcv run --listen ADDRESS --spool FILE [OPTIONS] < FILE")
         .after_help(RUN_FORM)
         .arg(listen_option(alloc))?
         .arg(spool_option(alloc))?
         .arg(sessions_option(alloc))?
-        .arg(proxies_option(alloc))
+        .arg(proxies_option(alloc))?
+        .arg(window_option(alloc))?
+        .arg(server_timeout_option(alloc))?
+        .arg(client_timeout_option(alloc))
 }
 
 fn command<'a>(alloc: Global) -> Result<Command<'a>, AllocError>
@@ -212,22 +248,65 @@ fn line_fault(alloc: Global, error: &ClapError) -> LineFault
     }
 }
 
-/// The job of `run`, by what clap found for its options.
-fn run_job<'a>(found: &ArgMatches<'a>) -> Option<Job<'a>>
-    ensures job { IfSome result (IsRunOf (rows_of (found_of found.now))) }
-    ensures some { (listen spool : Text) (sessions proxies : ℕ) → HasRunValues (rows_of (found_of found.now)) listen spool sessions proxies
-        → sessions < 2 ^ 64 → proxies < 2 ^ 64 → IsSome result }
+/// The number that clap found for an option; None where it found no value. An error is that the value is no number, or out
+/// of range.
+fn number_of<T: InRange>(found: &ArgMatches<'_>, option: &str) -> Result<Option<T>, LineFault>
+    ensures number { IfOk result (λ number. IsNumberIfGiven option.now (rows_of (found_of found.now)) (option_map T.value number)) }
+    ensures ok { MayBeGivenIn option.now T.least T.most (rows_of (found_of found.now)) → IsOk result }
 {
-    let listen = found.get_str("listen")?;
-    let spool = found.get_str("spool")?;
-    let sessions = found.get_one::<u64>("sessions")?;
-    let proxies = found.get_one::<u64>("proxies")?;
-    Some(Job::Run {
+    match found.try_get_one::<u64>(option) {
+        Ok(Some(number)) => match T::new(number) {
+            Some(number) => Ok(Some(number)),
+            None => Err(LineFault::BadLine),
+        },
+        Ok(None) => Ok(None),
+        Err(_) => Err(LineFault::BadLine),
+    }
+}
+
+/// The job of `check`, by what clap found for its options.
+fn check_job<'a>(found: &ArgMatches<'a>) -> Result<Job<'a>, LineFault>
+    ensures job { IfOk result (IsCheckOf (rows_of (found_of found.now))) }
+    ensures ok { IsGivenIn (codes "window") 0 window_limit (rows_of (found_of found.now)) → IsOk result }
+{
+    let cert = found.get_str("cert");
+    let Some(window) = number_of::<Window>(found, "window")? else {
+        return Err(LineFault::BadLine);
+    };
+    Ok(Job::Check { cert, window })
+}
+
+/// The job of `run`, by what clap found for its options.
+fn run_job<'a>(found: &ArgMatches<'a>) -> Result<Job<'a>, LineFault>
+    ensures job { IfOk result (IsRunOf (rows_of (found_of found.now))) }
+    ensures ok { CanRun (rows_of (found_of found.now)) → IsOk result }
+{
+    let Some(listen) = found.get_str("listen") else {
+        return Err(LineFault::BadLine);
+    };
+    let Some(spool) = found.get_str("spool") else {
+        return Err(LineFault::BadLine);
+    };
+    let sessions = number_of::<Sessions>(found, "sessions")?;
+    let Some(proxies) = number_of::<Proxies>(found, "proxies")? else {
+        return Err(LineFault::BadLine);
+    };
+    let Some(window) = number_of::<Window>(found, "window")? else {
+        return Err(LineFault::BadLine);
+    };
+    let server_timeout = number_of::<ServerTimeout>(found, "server-timeout")?;
+    let client_timeout = number_of::<ClientTimeout>(found, "client-timeout")?;
+    Ok(Job::Run(RunOptions {
         listen,
         spool,
-        sessions,
-        proxies,
-    })
+        settings: Settings {
+            sessions,
+            proxies,
+            window,
+            server_timeout,
+            client_timeout,
+        },
+    }))
 }
 
 /// Reads the words of a command line, of which the first is the program's name.
@@ -241,11 +320,13 @@ pub fn read_words<'a>(alloc: Global, words: &'a [&'a str]) -> Result<Job<'a>, Li
         Err(error) => return Err(line_fault(alloc, &error)),
     };
     if let Some(found) = matches.subcommand_matches("check") {
-        let cert = found.get_str("cert");
-        return Ok(Job::Check { cert });
+        let Ok(job) = check_job(found) else {
+            return Err(LineFault::BadLine);
+        };
+        return Ok(job);
     }
     if let Some(found) = matches.subcommand_matches("run") {
-        let Some(job) = run_job(found) else {
+        let Ok(job) = run_job(found) else {
             return Err(LineFault::BadLine);
         };
         return Ok(job);

@@ -1,5 +1,5 @@
 -- Deletes are kept.
-use Rattle.std.proofs.Common.{◌≡◌, ◌≢◌, ◌⊎◌, inl, inr, ℕ, true, List, Some, refl, sym, ap, ◌∙◌, subst}
+use Rattle.std.proofs.Common.{◌≡◌, ◌≢◌, ◌⊎◌, inl, inr, ℕ, true, List, Option, Some, refl, sym, ap, ◌∙◌, subst}
 use Rattle.std.specs.Prelude.{option_map, slice_get, unwrap_or}
 use Rattle.std.specs.List.{Contains}
 use Rattle.std.proofs.lemmas.Bool.{and_from}
@@ -15,7 +15,8 @@ use Rattle.mcv_route.specs.Situation.{asked}
 use Rattle.mcv_route.specs.Tree.{Tree, error}
 use Rattle.mcv_route.specs.Launched.{launched}
 use Rattle.mcv_route.specs.Replies.{replies}
-use Rattle.mcv_route.specs.Verdict.{IsCovered, IsLegal, IsReadable, IsSent}
+use Rattle.mcv_route.specs.Eras.{IsEra, IsNear}
+use Rattle.mcv_route.specs.Verdict.{IsCovered, IsLegal, IsReadableNear, IsSent}
 use Rattle.mcv_rules.proofs.ListMembers.{Among}
 use Rattle.mcv_symbolic.specs.CoveredRoutes.{AreCovered, sizes_of}
 use Rattle.mcv_world.specs.World.{LegState, Queued, Performed, Spooled, Gone, Call, World, tree_of, choice_of, history_of, reply_of, is_counted_delete}
@@ -39,24 +40,24 @@ module _ (r : RoutesValue) (w : World) (covered : AreCovered r) (i : IsWorld r w
   abbrev tree : Tree
   tree = tree_of r call.route
 
-  is_covered : IsCovered (sizes_of r) tree call.rest call.since
-  is_covered =
+  is_covered : (read : Option ℕ) → IsEra r read → IsNear r r.window call.since read → IsCovered (sizes_of r) tree call.rest call.since read
+  is_covered read era near =
       let c = (i.calls k call there).1 in
       let same : tree ≡ c.began.entry.tree = ap (λ o. unwrap_or (option_map (λ e. e.tree) o) error) c.began.there in
-      subst (λ t. IsCovered (sizes_of r) t call.rest call.since) (sym same)
-      (covered c.began.entry call.rest call.since (at_place r.entries call.route c.began.entry c.began.there) c.began.rest_is c.era)
+      subst (λ t. IsCovered (sizes_of r) t call.rest call.since read) (sym same)
+      (covered c.began.entry call.rest call.since read (at_place r.entries call.route c.began.entry c.began.there) c.began.rest_is c.era era near)
 
-  sent_to : (reply : ReplyValue) → reply_of r call ≡ Some reply → outcome_of reply ≢ Error → (x : ℕ) → IsReadable tree call.rest call.since (choice_of call) x
+  sent_to : (reply : ReplyValue) → reply_of r call ≡ Some reply → outcome_of reply ≢ Error → (x : ℕ) → IsReadableNear r tree call.rest call.since (choice_of call) x
       → IsSent tree call.rest call.since (choice_of call) (outcomes (history_of call.recorded)) x
   sent_to reply e fine x readable =
       let c = (i.calls k call there).1 in
       let legal = subst (λ op. IsLegal tree (asked op call.rest call.since) (choice_of call) (history_of call.recorded)) delete c.legal in
       let a = reply_answer r call reply e in
       let among = subst (λ op. Among (replies tree (asked op call.rest call.since) (outcomes (history_of call.recorded))) a.0) delete a.1 in
-      is_covered (choice_of call) (outcomes (history_of call.recorded)) c.began.choice_is (history_of call.recorded, legal, λ p. refl)
-      (among_has (replies tree (asked Delete call.rest call.since) (outcomes (history_of call.recorded))) (λ b. b.outcome ≢ Error) a.0 among (λ f. fine (sym a.2 ∙ f))) x readable
+      is_covered readable.0 readable.1 readable.2 (choice_of call) (outcomes (history_of call.recorded)) c.began.choice_is (history_of call.recorded, legal, λ p. refl)
+      (among_has (replies tree (asked Delete call.rest call.since) (outcomes (history_of call.recorded))) (λ b. b.outcome ≢ Error) a.0 among (λ f. fine (sym a.2 ∙ f))) x readable.3
 
-  pub keeps_leg : (reply : ReplyValue) → reply_of r call ≡ Some reply → outcome_of reply ≢ Error → (x : ℕ) → IsReadable tree call.rest call.since (choice_of call) x → KeepsLeg w k x
+  pub keeps_leg : (reply : ReplyValue) → reply_of r call ≡ Some reply → outcome_of reply ≢ Error → (x : ℕ) → IsReadableNear r tree call.rest call.since (choice_of call) x → KeepsLeg w k x
   keeps_leg reply e fine x readable =
       let s = has_among _ _ (sent_to reply e fine x readable) in
       let op = deletes_send_deletes tree call.rest call.since (choice_of call) (outcomes (history_of call.recorded)) s.0 s.1 in

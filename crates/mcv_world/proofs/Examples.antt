@@ -26,7 +26,7 @@ abbrev server : ℕ → Tree
 server x = pool (record { symbol = 0; servers = x ∷ [] }) [] none
 
 abbrev of_tree : Tree → RoutesValue
-of_tree t = record { servers = [] ∷ [] ∷ []; symbols = record { func = Ch3; salt = []; n = 1 } ∷ []; entries = record { aliases = []; tree = t } ∷ [] }
+of_tree t = record { servers = [] ∷ [] ∷ []; symbols = record { func = Ch3; salt = []; n = 1 } ∷ []; entries = record { aliases = []; tree = t } ∷ []; window = 0 }
 
 abbrev two : Tree → Tree → Trees
 two t u = child t (child u none)
@@ -156,6 +156,13 @@ further_leg_goes_by_the_calls_era = refl
 later_call_has_the_later_era : server_in (many Failover (two (server 4) (migrate (server 5) (server 7) 10 10))) (EraBegan (Some 30) ∷ begins Delete ∷ WasRefused 0 ∷ []) 1 ≡ Some 7
 later_call_has_the_later_era = refl
 
+-- an era begins only where another one was
+era_that_stays_does_not_begin : is_next (server 5) [] (EraBegan None) ≡ false
+era_that_stays_does_not_begin = refl
+
+another_era_begins : is_next (server 5) (EraBegan (Some 30) ∷ []) (EraBegan (Some 40)) ≡ true
+another_era_begins = refl
+
 -- a shadow's leg counts for nothing: it can be lost
 shadow_leg_is_not_counted : counted_in (with_shadow 5 9) (begins Delete ∷ []) 1 ≡ Some false
 shadow_leg_is_not_counted = refl
@@ -268,7 +275,7 @@ no_error e = cc
 
 delete_elsewhere_is_not_kept : Kept (of_tree (apart 5 7)) (world (apart 5 7) (begins Delete ∷ Answered 0 deleted ∷ [])) → ⊥
 delete_elsewhere_is_not_kept kept =
-    let h = kept 0 delete_call deleted refl refl refl no_error 7 get_is_answered_elsewhere in
+    let h = kept 0 delete_call deleted refl refl refl no_error 7 (None, tt, inl refl, get_is_answered_elsewhere) in
     elim (one_of_two (delete_leg 0 (0 ∷ []) 5 Plain) (record (delete_leg 0 (0 ∷ []) 5 Plain) { state = Performed }) h.leg 0 0 h.number h.there) [
       | inl e ↦ let x : 5 ≡ 7 = ap (λ l. l.launch.server.0) e ∙ h.server in omega (arith, x)
       | inr e ↦ let x : 5 ≡ 7 = ap (λ l. l.launch.server.0) e ∙ h.server in omega (arith, x)

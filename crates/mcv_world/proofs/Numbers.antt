@@ -7,7 +7,7 @@ use Rattle.mcv_route.specs.Outcomes.{is_same}
 use Rattle.mcv_rules.proofs.ListMembers.{Among}
 use Rattle.mcv_rules.proofs.Orders.{same_is}
 use Rattle.mcv_world.specs.World.{Leg, put}
-use Rattle.mcv_world.specs.Moves.{queued, queue, is_new, fresh}
+use Rattle.mcv_world.specs.Moves.{queued, queue, is_new, is_other_era, fresh}
 
 pub same_some : {A : Type 0} {x y : A} → Some x ≡ Some y → x ≡ y
 same_some e = cc
@@ -18,6 +18,12 @@ no_some e = absurd cc
 pub none_when : {A : Type 0} (o : Option A) → is_none o ≡ true → o ≡ None
 none_when None e = refl
 none_when (Some x) e = absurd (true≢false (sym e))
+
+pub other_era : (a b : Option ℕ) → (b ≡ a → ⊥) → is_other_era a b ≡ true
+other_era None None other = absurd (other refl)
+other_era None (Some b) other = refl
+other_era (Some a) None other = refl
+other_era (Some a) (Some b) other = ap not (ne_eqb a b (λ e. other (ap (λ (k : ℕ). Some k) (sym e))))
 
 -- ---- at a number
 

@@ -3,7 +3,7 @@ use Rattle.std.proofs.Common.{◌≡◌, cond, inl, inr, ℕ, Bool, true, false,
 use Rattle.std.specs.Prelude.{option_and_then}
 use Rattle.std.proofs.lemmas.Bool.{cases_Bool}
 use Rattle.mcv_base.specs.declared.operation.Op.{Op}
-use Rattle.mcv_base.specs.declared.operation.Op.TheVariants.{Get, Gets, Set, Add, Replace, Append, Prepend, Cas, Delete, Touch}
+use Rattle.mcv_base.specs.declared.operation.Op.TheVariants.{Get, Gets, Set, Add, Replace, Append, Prepend, Cas, Delete, Touch, Incr, Decr}
 use Rattle.mcv_base.specs.declared.reply.Outcome.TheVariants.{Soft}
 use Rattle.mcv_base.specs.Reply.{ReplyValue, outcome_of, fixed_value}
 use Rattle.mcv_route.specs.Outcomes.{is_same, outcomes}
@@ -39,6 +39,8 @@ default_soft Prepend = refl
 default_soft Cas = refl
 default_soft Delete = refl
 default_soft Touch = refl
+default_soft Incr = refl
+default_soft Decr = refl
 
 source_outcome : (call : Call) (source : Source) (x : ReplyValue) → reply_from call source ≡ Some x → outcome_at (outcomes (history_of call.recorded)) source ≡ Some (outcome_of x)
 source_outcome call (leg p) x e = recorded_outcome call.recorded p x e

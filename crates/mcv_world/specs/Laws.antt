@@ -10,7 +10,7 @@ use Rattle.mcv_route.specs.declared.launch.Launch.{Launch}
 use Rattle.mcv_route.specs.Eras.{IsEra, breaks_of, since_at}
 use Rattle.mcv_route.specs.Outcomes.{IsChoice, outcomes}
 use Rattle.mcv_route.specs.Routes.{RoutesValue}
-use Rattle.mcv_route.specs.Verdict.{Has, IsLegal, IsReachable, IsReadable, IsSent}
+use Rattle.mcv_route.specs.Verdict.{Has, IsLegal, IsReachable, IsReadableNear, IsSent}
 use Rattle.mcv_symbolic.specs.CoveredRoutes.{AreCovered}
 use Rattle.mcv_world.specs.World.{Gone, Call, Leg, World, tree_of, situation_of, choice_of, history_of, launched_by, reply_of, is_counted_delete}
 use Rattle.mcv_world.specs.Moves.{Move, is_move, after, run}
@@ -75,7 +75,7 @@ NothingLaunchedIsLost = (r : RoutesValue) (w : World) (ms : List Move) → IsOpe
 -- where the routes are covered and a delete has a reply that isn't an error, a leg of it that lies under no shadow was launched to each server that could answer
 abbrev pub ReadableIsLaunched : Type 0
 ReadableIsLaunched = (r : RoutesValue) (w : World) (k : ℕ) (call : Call) (reply : ReplyValue) → AreCovered r → IsWorld r w → w.calls k ≡ Some call → call.op ≡ Delete → reply_of r call ≡ Some reply → outcome_of reply ≢ Error
-    → (x : ℕ) → IsReadable (tree_of r call.route) call.rest call.since (choice_of call) x → IsSent (tree_of r call.route) call.rest call.since (choice_of call) (outcomes (history_of call.recorded)) x
+    → (x : ℕ) → IsReadableNear r (tree_of r call.route) call.rest call.since (choice_of call) x → IsSent (tree_of r call.route) call.rest call.since (choice_of call) (outcomes (history_of call.recorded)) x
 
 -- ---- deletes are kept
 

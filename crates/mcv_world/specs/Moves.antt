@@ -1,5 +1,5 @@
 -- What changes the calls and legs of a proxy, one move at a time (own).
-use Rattle.std.specs.Prelude.{ℕ, suc, ◌+◌, Bool, true, false, not, ◌&&◌, List, [], ◌∷◌, Option, Some, None, cond, if◌then◌else◌, is_none, is_some, length, filter}
+use Rattle.std.specs.Prelude.{ℕ, suc, ◌+◌, Bool, true, false, not, ◌&&◌, List, [], ◌∷◌, Option, Some, None, cond, if◌then◌else◌, is_none, is_some, length, filter, nat_eq}
 use Rattle.std.specs.List.{list_any}
 use Rattle.mcv_base.specs.declared.operation.Op.{Op}
 use Rattle.mcv_base.specs.declared.reply.FixedReply.TheVariants.{Lost}
@@ -21,7 +21,7 @@ pub data Move : Type 0 where
   WasRefused : (leg : ℕ) → Move
   -- a spooled leg was sent again, and its server performed it
   WasPerformed : (leg : ℕ) → Move
-  -- the era that began at this break, or the first one
+  -- another era than before: the one that began at this break, or the first one
   EraBegan : (since : Option ℕ) → Move
   -- the call's reply was taken by who asked
   Taken : (call : ℕ) → Move
@@ -67,13 +67,20 @@ can_be_refused w s = is_queued s.state && (is_awaited w s s.call && is_counted_d
 abbrev pub can_be_taken : RoutesValue → Call → Bool
 can_be_taken r call = not call.taken && is_some (reply_of r call)
 
+-- the second break didn't open the era that the first one did
+abbrev pub is_other_era : Option ℕ → Option ℕ → Bool
+is_other_era None None = false
+is_other_era None (Some b) = true
+is_other_era (Some a) None = true
+is_other_era (Some a) (Some b) = not (nat_eq a b)
+
 abbrev pub is_move : RoutesValue → World → Move → Bool
 is_move r w (Began op route rest choice) = true
 is_move r w (Answered n x) = is_one (w.legs n) (can_be_answered w x)
 is_move r w (WasSpooled n) = is_one (w.legs n) can_be_spooled
 is_move r w (WasRefused n) = is_one (w.legs n) (can_be_refused w)
 is_move r w (WasPerformed n) = is_one (w.legs n) (λ s. is_spooled s.state)
-is_move r w (EraBegan since) = true
+is_move r w (EraBegan since) = is_other_era w.since since
 is_move r w (Taken k) = is_one (w.calls k) (can_be_taken r)
 
 -- ---- legs that are launched

@@ -15,7 +15,7 @@ pub fn nothing_launched_is_lost()
 {}
 
 /// Where the routes are covered and a delete has a reply that is no error, a leg of it that lies under no shadow was
-/// launched to each server that could answer a get or gets of its rest.
+/// launched to each server that could answer a get, gets, incr or decr of its rest.
 pub fn readable_servers_are_launched()
     ensures { ReadableIsLaunched }
 {}

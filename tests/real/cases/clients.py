@@ -1,4 +1,4 @@
-"""Clients that people have: pymemcache, and the tools of libmemcached."""
+"""Clients that people have: pymemcache, pylibmc, and the tools of libmemcached."""
 import os
 import subprocess
 
@@ -7,12 +7,12 @@ from pymemcache.client.base import Client as Pymemcache
 from parts import LIMIT, Failed, address_of, answer, case, deletes_to_all, expect, one_pool, shown, value_answer
 from relays import ANSWERED, HANDED_ON, Relay
 
-# memccapable's cases of the ten operations and of version. Left out are those of commands that mcv hasn't (incr, decr,
-# flush_all, stats, verbosity), and that of quit, which memcached 1.6 fails too where it is run alone.
-STORES = ["set", "add", "replace", "append", "prepend", "cas", "delete"]
-CAPABLE = ["version", "get", "gets", "mget", *STORES, *(name + " noreply" for name in STORES)]
+# memccapable's cases of the twelve operations and of version. Left out are those of commands that mcv hasn't (flush_all,
+# stats, verbosity), and that of quit, which memcached 1.6 fails too where it is run alone.
+CHANGES = ["set", "add", "replace", "append", "prepend", "cas", "delete", "incr", "decr"]
+CAPABLE = ["version", "get", "gets", "mget", *CHANGES, *(name + " noreply" for name in CHANGES)]
 # Those that pass without a relay: no line of them is one that mcv refuses.
-CAPABLE_ALONE = ["mget", "append", "prepend"]
+CAPABLE_ALONE = ["mget", "append", "prepend", "incr", "decr"]
 
 
 def pymemcache_at(mcv, **how):
@@ -43,6 +43,11 @@ def pymemcache_with_replies(machine):
     expect(client.get("b"), b"4")
     expect(client.touch("b", 1000), True)
     expect(client.touch("c", 1000), False)
+    expect(client.set("n", b"10"), True)
+    expect(client.incr("n", 5), 15)
+    expect(client.decr("n", 20), 0)
+    expect(client.incr("none", 1), None)
+    expect(client.decr("none", 1), None)
     # NOT_FOUND of the server that hasn't the key is the worse reply, so pymemcache says False.
     expect(client.delete("b"), False)
     expect(client.get("b"), None)
@@ -67,6 +72,10 @@ def pymemcache_without_replies(machine):
         expect(value, b"<3>")
         client.cas(key, b"4", unique, noreply=True)
         expect(client.get(key), b"4")
+        client.set(key, b"10")
+        client.incr(key, 5, noreply=True)
+        client.decr(key, 3, noreply=True)
+        expect(client.get(key), b"12")
         client.delete(key)
         expect(client.get(key), None)
     client.close()
@@ -88,6 +97,29 @@ def pymemcache_with_many_keys(machine):
     client.delete_many(list(values), noreply=True)
     expect(client.get_many(list(values)), {})
     client.close()
+
+
+# It is run by Debian's python3, for which Debian's pylibmc is built.
+PYLIBMC = """
+import sys
+import pylibmc
+client = pylibmc.Client(sys.argv[1:])
+print(client.set("n", 10), client.incr("n", 5), client.decr("n", 20), client.incr("n", 3), client.get("n"))
+for ask in (client.incr, client.decr):
+    try:
+        print(ask("none", 1))
+    except pylibmc.NotFound:
+        print("not found")
+"""
+
+
+@case()
+def pylibmc_counts(machine):
+    mcv = machine.mcv(deletes_to_all(machine.servers(2)))
+    host, port = address_of(mcv.address)
+    words = ["/usr/bin/python3", "-c", PYLIBMC, "%s:%d" % (host, port)]
+    done = subprocess.run(words, capture_output=True, text=True, timeout=LIMIT)
+    expect((done.stdout, done.stderr), ("True 15 0 3 3\nnot found\nnot found\n", ""), "what pylibmc was answered")
 
 
 def capable(server, name):

@@ -4,9 +4,11 @@ import random
 import socket
 import struct
 import threading
+import time
 
 from fakes import Fake
-from parts import Failed, case, deletes_to_all, expect, one_pool, records, replayed, stored, value_answer, wait_for
+from parts import (LIMIT, Failed, address_of, case, deletes_to_all, expect, one_pool, records, replayed, stored, value_answer,
+                   wait_for)
 
 
 @case(120)
@@ -80,6 +82,53 @@ def garbage_and_half_requests_while_others_work(machine):
                     client.send(chosen.randbytes(200))
     with mcv.client() as client:
         client.ask(b"get g\r\n", b"END\r\n")
+
+
+def used(process):
+    """Megabytes of memory that a process has, its threads, and its maps."""
+    with open("/proc/%d/status" % process.pid) as file:
+        rows = dict(row.split(":", 1) for row in file)
+    with open("/proc/%d/maps" % process.pid) as file:
+        maps = sum(1 for _ in file)
+    return int(rows["VmRSS"].split()[0]) // 1024, int(rows["Threads"]), maps
+
+
+@case(240)
+def forty_thousand_connections_one_after_the_other(machine):
+    mcv = machine.mcv(one_pool(machine.servers(1)))
+    address = address_of(mcv.address)
+    before = None
+    for n in range(40000):
+        if n == 1000:
+            before = used(mcv.process)
+        # From many addresses, since a port isn't free again at once.
+        with socket.create_connection(address, timeout=LIMIT, source_address=("127.0.1.%d" % (n // 200 + 1), 0)) as client:
+            client.sendall(b"version\r\nquit\r\n")
+            found = b""
+            while piece := client.recv(100):
+                found += piece
+            expect(found, b"VERSION mcv 1\r\n", "connection %d" % n)
+    after = used(mcv.process)
+    # What is left of one connection more.
+    if any(now > was + more for was, now, more in zip(before, after, (8, 2, 40))):
+        raise Failed("(megabytes, threads, maps) are %s, and were %s after 1,000" % (after, before))
+
+
+@case()
+def a_client_past_its_time_is_closed(machine):
+    mcv = machine.mcv(one_pool(machine.servers(1)), client_timeout=1000)
+    with mcv.client() as idle, mcv.client() as half, mcv.client() as deaf, mcv.client() as works:
+        works.ask(stored(b"big", b"x" * 1000000), b"STORED\r\n")
+        half.send(b"set a 0 0 5\r\nab")
+        # Far more than the system keeps for who doesn't read it.
+        deaf.send(b"get big\r\n" * 30)
+        for _ in range(60):
+            works.ask(b"get a\r\n", b"END\r\n")
+            time.sleep(0.1)
+        expect(idle.rest() + half.rest(), b"")
+        if len(deaf.rest()) >= 30 * 1000000:
+            raise Failed("a client that reads nothing has all its answers")
+        works.ask(b"get a\r\n", b"END\r\n")
 
 
 @case()

@@ -1,8 +1,11 @@
-"""Servers that go away, come back, misbehave, or have other addresses."""
+"""Servers that go away, come back, hang, misbehave, or have other addresses."""
+import contextlib
 import signal
 import socket
+import threading
+import time
 
-from fakes import DROP, REFUSE, SILENCE, Fake
+from fakes import DROP, PERFORM, PERFORM_AND_DROP, REFUSE, SILENCE, Fake
 from parts import (Client, Failed, answer, case, deletes_to_all, expect, free_port, one_pool, pending, records, replayed, stored,
                    value_answer, wait_for)
 
@@ -131,8 +134,10 @@ def what_is_no_reply_is_an_error_and_a_delete_is_spooled(machine):
     cases = {
         b"get": [b"VALUE other 0 1\r\nx\r\nEND\r\n", b"VALUE a 0 1 7\r\nx\r\nEND\r\n", b"STORED\r\n", b"VALUE a 0 1048577\r\n", b"x" * 3000,
                  b"END\r\nEND\r\n", b"VALUE a 0 1\r\nxyEND\r\n", b"\0\r\n"],
+        b"incr": [b"18446744073709551616\r\n", b"-1\r\n", b"6x\r\n", b"TOUCHED\r\n", b"\r\n"],
         b"delete": [b"STORED\r\n", b"nonsense\r\n", b"DELETED\r\nDELETED\r\n"],
     }
+    more = {b"incr": b" 1"}
     spooled = 0
     for name, texts in cases.items():
         for text in texts:
@@ -140,8 +145,8 @@ def what_is_no_reply_is_an_error_and_a_delete_is_spooled(machine):
             spool = machine.path("spool.%d" % id(fake))
             mcv = machine.mcv(one_pool([fake.text]), spool=spool)
             with mcv.client() as client:
-                wanted = FAILED if name == b"get" else b"NOT_FOUND\r\n"
-                client.ask(name + b" a\r\n", wanted)
+                wanted = b"NOT_FOUND\r\n" if name == b"delete" else FAILED
+                client.ask(name + b" a" + more.get(name, b"") + b"\r\n", wanted)
             if name == b"delete":
                 expect(records(spool)[0][1:], (fake.text.encode(), b"a"))
                 spooled += 1
@@ -171,6 +176,18 @@ def a_connection_that_breaks_is_opened_again(machine):
 
 
 @case()
+def an_incr_is_sent_once_whatever_becomes_of_its_connection(machine):
+    moods = iter([PERFORM, PERFORM_AND_DROP])
+    fake = machine.fake(Fake(mood=lambda: next(moods, PERFORM), replies={b"incr": b" 06 \r\n"}))
+    mcv = machine.mcv(one_pool([fake.text]))
+    with mcv.client() as client:
+        client.ask(b"get a\r\n", b"END\r\n")
+        client.ask(b"incr a 5\r\n", FAILED)
+        expect(fake.requests.count((b"incr", b"a")), 1, "the incrs that were sent")
+        client.ask(b"incr a 5\r\n", b"6\r\n")
+
+
+@case()
 def a_server_that_answers_nothing_stops_no_other(machine):
     silent = machine.fake(Fake(mood=lambda: SILENCE))
     up = machine.servers(1)[0]
@@ -185,13 +202,129 @@ def a_server_that_answers_nothing_stops_no_other(machine):
         expect(waits.line(), FAILED)
 
 
+def timed(client, sent, wanted):
+    """How many seconds an answer took."""
+    begun = time.monotonic()
+    client.ask(sent, wanted)
+    return time.monotonic() - begun
+
+
+def hung_beside(hung, up):
+    """Keys from `hung` on are those of one server, all others of another one."""
+    route = {"type": "PrefixSelectorRoute", "policies": {"hung": "PoolRoute|A"}, "wildcard": "PoolRoute|B"}
+    return {"pools": {"A": {"servers": [hung]}, "B": {"servers": [up]}}, "route": route}
+
+
+@case()
+def a_server_that_hangs_fails_in_its_time(machine):
+    (text, process), up = machine.memcached(), machine.servers(1)[0]
+    spool = machine.path("mcv.spool")
+    mcv = machine.mcv(hung_beside(text, up), server_timeout=200)
+    with mcv.client() as waits, mcv.client() as works:
+        waits.ask(stored(b"hung", b"1") + b"get hung\r\n", b"STORED\r\n" + value_answer(b"hung", b"1"))
+        process.send_signal(signal.SIGSTOP)
+        for turn in range(3):
+            # The first over the connection that was kept, which isn't sent once more; the others over new ones.
+            took = timed(waits, b"get hung\r\n", FAILED)
+            if not 0.15 < took < 5:
+                raise Failed("get %d took %.3f seconds" % (turn, took))
+            works.ask(stored(b"k", b"%d" % turn) + b"get k\r\n", b"STORED\r\n" + value_answer(b"k", b"%d" % turn))
+        wait_for(lambda: b"mcv: server " + text.encode() + b" is marked\n" in mcv.error_text(), "the mark")
+        waits.ask(b"get hung\r\n", FAILED)
+        waits.ask(b"delete hung\r\n", b"NOT_FOUND\r\n")
+        expect(pending(spool), [(text.encode(), b"hung")])
+        process.send_signal(signal.SIGCONT)
+        wait_for(lambda: not pending(spool), "the delete is sent again")
+
+        def back():
+            waits.send(b"get hung\r\n")
+            return waits.line() == b"END\r\n"
+
+        wait_for(back, "gets are answered again")
+
+
+@case()
+def what_a_server_didnt_answer_in_its_time_isnt_sent_again(machine):
+    moods = iter(["perform"])
+    fake = machine.fake(Fake(mood=lambda: next(moods, SILENCE)))
+    mcv = machine.mcv(one_pool([fake.text]), server_timeout=200)
+    with mcv.client() as client:
+        # The second goes over the connection that was kept: closed, it would be sent once more.
+        client.ask(b"get a\r\nget b\r\n", b"END\r\n" + FAILED)
+        expect(fake.requests, [(b"get", b"a"), (b"get", b"b")])
+
+
+def getting(mcv, count, slow, faults):
+    """Sends so many gets, 50 at a time, and notes what takes longer than ten seconds and what isn't answered by END."""
+    try:
+        with mcv.client() as client:
+            for _ in range(count // 50):
+                took = timed(client, b"get k\r\n" * 50, b"END\r\n" * 50)
+                if took > 10:
+                    slow.append(took)
+    except (Failed, OSError) as fault:
+        faults.append(str(fault))
+
+
+@case(300)
+def half_a_million_gets_beside_a_server_that_hangs(machine):
+    """More than the history of a chapter holds, so that calls wait for the next one, which waits for calls that run. The time is
+    one that the server that is up keeps on a busy machine too."""
+    (text, process), up = machine.memcached(), machine.servers(1)[0]
+    mcv = machine.mcv(hung_beside(text, up), server_timeout=1000)
+    process.send_signal(signal.SIGSTOP)
+    slow, faults, stop = [], [], threading.Event()
+
+    def hanging():
+        with contextlib.suppress(OSError), mcv.client() as client:
+            while not stop.is_set():
+                client.send(b"get hung\r\n")
+                client.line()
+                time.sleep(0.01)
+
+    threads = [threading.Thread(target=getting, args=(mcv, 62500, slow, faults)) for _ in range(8)] + [threading.Thread(target=hanging)]
+    for thread in threads:
+        thread.start()
+    for thread in threads[:-1]:
+        thread.join()
+    stop.set()
+    threads[-1].join()
+    expect((faults, slow), ([], []), "gets of the server that is up")
+
+
+LIMITED = ["prlimit", "--fsize=1281:", "env", "--ignore-signal=XFSZ"]
+
+
+@case()
+def a_spool_that_refuses_costs_an_answer_no_wait(machine):
+    """Twelve clients delete keys of a server that is away, while the file can't grow past two records."""
+    text = "127.0.0.1:%d" % free_port()
+    spool = machine.path("mcv.spool")
+    mcv = machine.mcv(one_pool([text]), before=LIMITED)
+    with contextlib.ExitStack() as kept:
+        clients = [kept.enter_context(mcv.client()) for _ in range(12)]
+        clients[0].ask(b"delete a\r\ndelete b\r\n", b"NOT_FOUND\r\nNOT_FOUND\r\n")
+        seconds = []
+        for turn in range(5):
+            begun = time.monotonic()
+            for n, client in enumerate(clients):
+                client.send(b"delete k%d.%d\r\n" % (turn, n))
+            for client in clients:
+                expect(client.line(), FAILED)
+            seconds.append(time.monotonic() - begun)
+        if min(seconds) > 0.1 or max(seconds) > 5:
+            raise Failed("twelve deletes took %s seconds" % ["%.3f" % took for took in seconds])
+        machine.start(["prlimit", "--pid", str(mcv.process.pid), "--fsize=unlimited:"]).wait()
+        wait_for(lambda: len(pending(spool)) == 62, "each delete that was refused is written")
+        clients[0].ask(b"delete c\r\n", b"NOT_FOUND\r\n")
+
+
 @case()
 def the_spool_refuses_and_takes_it_later(machine):
     """A file that can't grow past two records, until the limit is taken away."""
     text = "127.0.0.1:%d" % free_port()
     spool = machine.path("mcv.spool")
-    limited = ["prlimit", "--fsize=1281:", "env", "--ignore-signal=XFSZ"]
-    mcv = machine.mcv(one_pool([text]), before=limited)
+    mcv = machine.mcv(one_pool([text]), before=LIMITED)
     with mcv.client() as client:
         client.ask(b"delete a\r\ndelete b\r\n", b"NOT_FOUND\r\nNOT_FOUND\r\n")
         client.ask(b"delete c\r\n", FAILED)

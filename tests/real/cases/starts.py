@@ -4,12 +4,13 @@ import os
 import signal
 import socket
 
-from parts import Failed, answer, case, deletes_to_all, expect, free_port, one_pool, stored, value_answer
+from parts import UNLIMITED, Failed, answer, case, deletes_to_all, expect, free_port, one_pool, stored, value_answer
 
 LOST = {
     "pools": {"A": {"servers": ["127.0.0.1:1"]}, "B": {"servers": ["127.0.0.1:2"]}},
     "route": {"type": "FailoverRoute", "children": ["PoolRoute|A", "PoolRoute|B"]},
 }
+MOVING = {"type": "MigrateRoute", "from": "PoolRoute|A", "to": "PoolRoute|B", "start_time": 1000, "interval": 3600}
 DEVICE = (4, b"", b"mcv: device failed\n")
 BAD_LINE = (1, b"", b"mcv: bad command line\n")
 
@@ -26,7 +27,7 @@ def one_session_with_one_get(machine):
     server = machine.servers(1)[0]
     expect(answer(server, stored(b"a", b"1")), b"STORED\r\n")
     port = free_port()
-    mcv = machine.mcv(one_pool([server]), listen="127.0.0.1:%d" % port, sessions=1)
+    mcv = machine.mcv(one_pool([server]), listen="127.0.0.1:%d" % port, sessions=1, server_timeout=10000, client_timeout=10000)
     expect((mcv.address, mcv.pending), ("127.0.0.1:%d" % port, 0))
     expect(answer(mcv.address, b"get a\r\nquit\r\n"), value_answer(b"a", b"1"))
     expect(mcv.last_lines(), (b"mcv closed calls 1\n", 0))
@@ -60,7 +61,7 @@ def sessions_of_two_proxies_and_the_number_of_their_calls(machine):
         for n, client in enumerate(clients):
             client.ask(b"delete k%d\r\n" % n, b"DELETED\r\n")
     expect(mcv.last_lines(), (b"mcv closed calls 12\n", 0))
-    expect(mcv.error_text(), b"", "standard error")
+    expect(mcv.error_text(), UNLIMITED, "standard error")
 
 
 @case()
@@ -74,6 +75,19 @@ def what_check_refuses_isnt_served_and_nothing_is_bound(machine):
     if not printed.startswith(b"lost 127.0.0.1:2\n"):
         raise Failed("another finding: %r" % printed)
     expect(os.path.exists(spool), False, "a spool file")
+
+
+@case()
+def what_is_lost_within_the_window_isnt_served(machine):
+    first, second = machine.servers(2)
+    config = {"pools": {"A": {"servers": [first]}, "B": {"servers": [second]}}, "route": MOVING}
+    status, printed, errors = machine.refused(config, listen=held_port(machine), window=3601)
+    expect((status, printed, errors), machine.refused(config, words=[machine.program, "check", "--window", "3601"]))
+    expect((status, printed.splitlines()[:4]), (3, [b"lost " + second.encode(), b"route 0", b"class =", b"era 0 2"]))
+    mcv = machine.mcv(config, window=3600)
+    with mcv.client() as client:
+        client.ask(stored(b"a", b"1") + b"get a\r\n", b"STORED\r\n" + value_answer(b"a", b"1"))
+    expect(answer(second, b"get a\r\n"), value_answer(b"a", b"1"))
 
 
 @case()
@@ -91,6 +105,9 @@ def a_bad_command_line(machine):
     listen = ["--listen", "127.0.0.1:0"]
     for words in (run, run + spool, run + listen, run + listen + spool + ["--sessions", "0"], run + listen + spool + ["--sessions", "1000000001"],
                   run + listen + spool + ["--sessions", "x"], run + listen + spool + ["--proxies", "0"], run + listen + spool + ["--proxies", "65"],
+                  run + listen + spool + ["--window", "-1"], run + listen + spool + ["--window", "4294967296"],
+                  run + listen + spool + ["--server-timeout", "0"], run + listen + spool + ["--server-timeout", "3600001"],
+                  run + listen + spool + ["--client-timeout", "0"], run + listen + spool + ["--client-timeout", "1s"],
                   run + listen + spool + ["more"], run + listen + listen + spool):
         expect(machine.refused(one_pool(["127.0.0.1:1"]), words=words), BAD_LINE, " ".join(words[1:]))
 
@@ -107,7 +124,7 @@ def a_spool_that_cant_be_opened(machine):
     with open(machine.path("damaged"), "wb") as file:
         file.write(bytes([1]) + bytes(640))
     for name in ("folder", "nowhere/mcv.spool", "damaged"):
-        expect(machine.refused(one_pool(["127.0.0.1:1"]), spool=machine.path(name)), DEVICE, name)
+        expect(machine.refused(one_pool(["127.0.0.1:1"]), spool=machine.path(name), server_timeout=1000), DEVICE, name)
 
 
 @case()

@@ -4,11 +4,13 @@ import threading
 import time
 
 from fakes import DROP, PERFORM, PERFORM_AND_DROP, REFUSE, Fake
-from parts import Failed, case, deletes_to_all, expect, pending, records, wait_for
+from parts import Failed, case, deletes_to_all, expect, free_port, one_pool, pending, records, wait_for
 
 KILLS = 50
 CLIENTS = 8
 SERVERS = 3
+# Files that are each written by so many programs, all of which are killed.
+FILES, KILLS_OF_A_FILE = 10, 20
 
 
 class Moods:
@@ -46,15 +48,16 @@ def deleting(mcv, name, acknowledged):
         pass
 
 
-def loaded(mcv, turn, chosen):
-    """Deletes of several clients until a random moment, at which mcv is killed: the keys that were acknowledged."""
+def loaded(mcv, turn, chosen, most=0.4):
+    """Deletes of several clients until a random moment, so many seconds on at most, at which mcv is killed: the keys that were
+    acknowledged."""
     acknowledged = []
     threads = [threading.Thread(target=deleting, args=(mcv, b"%d.%d" % (turn, n), acknowledged)) for n in range(CLIENTS)]
     for thread in threads:
         thread.start()
     # The moment counts from the first acknowledged delete; so each turn has some, on a busy machine too.
     wait_for(lambda: acknowledged, "a first delete is acknowledged")
-    time.sleep(chosen.uniform(0, 0.4))
+    time.sleep(chosen.uniform(0, most))
     mcv.kill()
     for thread in threads:
         thread.join()
@@ -91,3 +94,31 @@ def fifty_kills_lose_no_acknowledged_delete(machine):
     wait_for(lambda: not pending(spool), "all that is spooled is sent again")
     for server in servers:
         expect([key for key in every if key not in server.performed], [], "not performed in the end (seed %d)" % seed)
+
+
+def killed_in_the_midst(machine, config, spool, chosen, turn, before):
+    """Deletes of a server that is away until mcv is killed; the records that are pending then, those of before among them."""
+    mcv = machine.mcv(config, spool=spool)
+    expect(mcv.pending, len(before), "pending at start %d" % turn)
+    acknowledged = loaded(mcv, turn, chosen, most=0.1)
+    found = pending(spool)
+    expect(found[: len(before)], before, "the records of before, after kill %d" % turn)
+    kept = {rest for _, rest in found}
+    expect([key for key in acknowledged if key not in kept], [], "acknowledged and not in the file, after kill %d" % turn)
+    expect(len(kept), len(found), "records of different keys, after kill %d" % turn)
+    return found
+
+
+@case(240)
+def two_hundred_kills_leave_each_delete_of_a_server_that_is_away_in_the_file(machine):
+    seed = random.randrange(1 << 32)
+    chosen = random.Random(seed)
+    config = one_pool(["127.0.0.1:%d" % free_port()])
+    for number in range(FILES):
+        spool, found = machine.path("spool.%d" % number), []
+        try:
+            for turn in range(KILLS_OF_A_FILE):
+                found = killed_in_the_midst(machine, config, spool, chosen, turn, found)
+            expect(machine.mcv(config, spool=spool).pending, len(found), "pending at the last start")
+        except Failed as failed:
+            raise Failed("%s (file %d, seed %d)" % (failed, number, seed))

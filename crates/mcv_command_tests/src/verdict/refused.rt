@@ -16,6 +16,8 @@ mcv-cert 1;0 = 0 1 all 0 0.0;0 = 0 1 all 1 0.1; = 4 5 certificate text 1 line 4
 mcv-cert 1;0 = 0 1 all 0 0.0;0 = 0 1 all 1 0.1;end;; = 4 5 certificate text 1 line 5
 mcv-cert 1;0 = 0 1 all 0 0.0;00 = 0 1 all 1 0.1;end; = 4 5 certificate text 1 line 3
 mcv-cert 2;end; = 4 5 certificate text 1 line 1
+mcv-cert 2 0;end; = 4 5 certificate text 1 line 1
+mcv-cert 2 60;0 = 0 0 1 all 0 0.0;end; = 8 5 certificate fault 7
 mcv-cert 1;0 = 0 1 all 0 0.0;0 = 0 1 all 1 0.1;0 = 0 1 all 2 0.1;end; = 5 5 certificate fault 2
 mcv-cert 1;0 = 0 1 all 0 0.0;0 = 0 1 same 1 0.2;end; = 5 5 certificate fault 3
 mcv-cert 1;0 = 0 1 never;end; = 5 5 certificate fault 5";
@@ -77,10 +79,10 @@ fn the_configuration_is_judged_before_the_certificate(rt: HostRuntime) {
 fn broken_devices_are_reported(rt: HostRuntime) {
     let input = b"{\"route\":\"NullRoute\"}";
     let mut output = Vec::new(rt.alloc());
-    let unread = run_check(rt.alloc(), &mut Broken, &mut output, None);
+    let unread = run_check(rt.alloc(), &mut Broken, &mut output, None, 0);
     assert!(rt; matches!(unread, Err(RunFault::Device)));
-    let unwritten = run_check(rt.alloc(), &mut input.as_slice(), &mut Broken, None);
+    let unwritten = run_check(rt.alloc(), &mut input.as_slice(), &mut Broken, None, 0);
     assert!(rt; matches!(unwritten, Err(RunFault::Device)));
-    let verdict = run_check(rt.alloc(), &mut input.as_slice(), &mut output, None);
+    let verdict = run_check(rt.alloc(), &mut input.as_slice(), &mut output, None, 0);
     assert!(rt; matches!(verdict, Ok(Verdict::Covered(0))));
 }

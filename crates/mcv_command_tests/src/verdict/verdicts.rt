@@ -39,10 +39,17 @@ fn fault_text(rt: &(impl AllocGlobal + Abort), fault: &RunFault) -> String {
     format!(in rt.alloc(); "{number} {status} {fault}").expect(rt, "memory")
 }
 
-/// What is written of a configuration, with slashes between the lines, or the fault, beside which nothing is written.
-fn shown(rt: &(impl AllocGlobal + Abort), configuration: &str, cert: Option<&[u8]>) -> String {
+/// What is written of a configuration within the window, with slashes between the lines, or the fault, beside which
+/// nothing is written.
+fn shown(
+    rt: &(impl AllocGlobal + Abort),
+    configuration: &str,
+    cert: Option<&[u8]>,
+    window: u64,
+) -> String {
     let mut output = Vec::new(rt.alloc());
-    match run_check(rt.alloc(), &mut configuration.as_bytes(), &mut output, cert) {
+    let mut input = configuration.as_bytes();
+    match run_check(rt.alloc(), &mut input, &mut output, cert, window) {
         Ok(_) => joined(rt, output),
         Err(fault) => {
             assert!(rt; output.is_empty(), "written beside a fault");
@@ -58,7 +65,18 @@ pub fn check(
     cert: Option<&[u8]>,
     wanted: &str,
 ) {
-    let text = shown(rt, configuration, cert);
+    check_within(rt, configuration, cert, 0, wanted);
+}
+
+/// What is written of a configuration within the window is this.
+fn check_within(
+    rt: &(impl AllocGlobal + Abort),
+    configuration: &str,
+    cert: Option<&[u8]>,
+    window: u64,
+    wanted: &str,
+) {
+    let text = shown(rt, configuration, cert, window);
     assert!(rt;
         text.as_str() == wanted,
         "{configuration}: {text}, not {wanted}"
@@ -104,6 +122,31 @@ fn verdicts_are_written(rt: HostRuntime) {
     }
 }
 
+const MOVING: &str =
+    "{\"type\":\"MigrateRoute\",\"from\":\"PoolRoute|A\",\"to\":\"PoolRoute|B\",\"start_time\":1000,\"interval\":3600}";
+
+/// A window, and what is written of the migration: a delete before it doesn't reach the pool that is read in its second
+/// half, 3601 seconds later and more.
+const MOVED: &str = "\
+1 = covered 10 / mcv-cert 2 1 / 0 = 0 0 0 twin 0 / 0 = 0 1 0 twin 0 / 0 = 1 0 0 twin 0 / 0 = 1 1 0 twin 0 / 0 = 1 2 1 twin 1 / 0 = 2 1 0 twin 0 / 0 = 2 2 1 twin 1 / 0 = 2 3 1 twin 1 / 0 = 3 2 1 twin 1 / 0 = 3 3 1 twin 1 / end
+3600 = covered 10 / mcv-cert 2 3600 / 0 = 0 0 0 twin 0 / 0 = 0 1 0 twin 0 / 0 = 1 0 0 twin 0 / 0 = 1 1 0 twin 0 / 0 = 1 2 1 twin 1 / 0 = 2 1 0 twin 0 / 0 = 2 2 1 twin 1 / 0 = 2 3 1 twin 1 / 0 = 3 2 1 twin 1 / 0 = 3 3 1 twin 1 / end
+3601 = lost b:11211 / route 0 / class = / era 0 2 / key /././! / get 1=hit / delete 0=deleted";
+
+fn check_moved(rt: &(impl AllocGlobal + Abort), configuration: &str, case: &str) {
+    let (window, wanted) = case.split_once(" = ").expect(rt, "a case");
+    let window = window.parse::<u64>().expect(rt, "a window");
+    check_within(rt, configuration, None, window, wanted);
+}
+
+#[test]
+fn verdicts_within_a_window_are_written(rt: HostRuntime) {
+    let configuration = format!(in rt.alloc(); "{POOLS}\"route\":{MOVING}}}");
+    let configuration = configuration.expect(&rt, "memory");
+    for case in MOVED.lines() {
+        check_moved(&rt, configuration.as_str(), case);
+    }
+}
+
 const ROUTES: &str =
     "\"routes\":[{\"aliases\":[\"/././\"],\"route\":\"PoolRoute|A\"},{\"aliases\":[\"/a/b/\"],\"route\":{\"type\":\"PrefixSelectorRoute\",\"policies\":{\"ab\":{\"type\":\"FailoverRoute\",\"children\":[\"PoolRoute|A\",\"PoolRoute|B\"]}},\"wildcard\":\"NullRoute\"}}]}";
 
@@ -115,6 +158,7 @@ fn the_first_loss_is_named(rt: HostRuntime) {
     let configuration = format!(in rt.alloc(); "{POOLS}{ROUTES}").expect(&rt, "memory");
     check(&rt, configuration.as_str(), None, FIRST_LOSS);
     let mut output = Vec::new(rt.alloc());
-    let verdict = run_check(rt.alloc(), &mut configuration.as_bytes(), &mut output, None);
+    let mut input = configuration.as_bytes();
+    let verdict = run_check(rt.alloc(), &mut input, &mut output, None, 0);
     assert!(rt; matches!(verdict, Ok(Verdict::Lost)));
 }

@@ -48,8 +48,17 @@ fn push_ask(rt: &impl Abort, text: &mut Vec<u8>, ask: &Ask) {
     push_unless_0(rt, text, b" f", i64::from(ask.flags));
     push_unless_0(rt, text, b" e", ask.exptime);
     push_cas(rt, text, ask.cas);
+    push_delta(rt, text, ask.delta);
     push(rt, text, if ask.noreply { b" noreply" } else { b"" });
     push_word(rt, text, body_mark(ask), ask.body.as_slice());
+}
+
+fn push_delta(rt: &impl Abort, text: &mut Vec<u8>, delta: u64) {
+    if delta != 0 {
+        push(rt, text, b" d");
+        let mut buffer = Buffer::new();
+        push(rt, text, buffer.format(delta).as_bytes());
+    }
 }
 
 /// An item as a word or more and a semicolon; fields that are 0, empty or None aren't shown.
@@ -180,7 +189,8 @@ prepend k 0 0 1~x~ | prepend k =x;
 cas k 1 2 3 18446744073709551615 noreply~xyz~ | cas k f1 e2 c18446744073709551615 noreply =xyz;
 touch a -1~version~quit~ | touch a e-1;version;quit;
 get a^get b~ | get a;get b;
-foo~~get a~incr a 1~ | refused 1;refused 1;get a;refused 1;";
+incr /././k 05~decr k 18446744073709551615 noreply~ | incr /././k d5;decr k d18446744073709551615 noreply;
+foo~~get a~gat 0 a~ | refused 1;refused 1;get a;refused 1;";
 
 #[test]
 fn streams_have_their_items_however_cut(rt: HostRuntime) {
@@ -205,7 +215,13 @@ cas k 0 0 0 18446744073709551616~ | refused 2;failed
 set a 0 0 1~xyz | refused 3;failed
 set a 0 0 1~xyz~ | refused 3;failed
 set a 0 0 1~x^ | refused 3;failed
-get a~add a 0 0 0~ ~ | get a;refused 3;failed";
+get a~add a 0 0 0~ ~ | get a;refused 3;failed
+incr a~ | refused 2;failed
+incr a 18446744073709551616~ | refused 2;failed
+decr a -1~ | refused 2;failed
+decr a +1~ | refused 2;failed
+incr a 1 2~ | refused 2;failed
+incr a b 1~ | refused 2;failed";
 
 #[test]
 fn refusals_2_and_3_end_the_reading(rt: HostRuntime) {
@@ -374,6 +390,8 @@ fn fixed(letter: u8) -> FixedReply {
         b'o' => FixedReply::NotFound,
         b'd' => FixedReply::Deleted,
         b't' => FixedReply::Touched,
+        b'6' => FixedReply::Number(6),
+        b'z' => FixedReply::Number(u64::MAX),
         b'r' => FixedReply::ErrorRoute,
         _ => FixedReply::Miss,
     }
@@ -408,7 +426,7 @@ type Answered = (&'static str, &'static str, &'static str);
 
 /// Streams of one request with the replies of its legs, by their letters, and the answer: hits under the client's keys, the
 /// first error line for all, and else one line.
-const ANSWERED: [Answered; 11] = [
+const ANSWERED: [Answered; 14] = [
     (
         "get /././a b c~",
         "h-e",
@@ -422,6 +440,9 @@ const ANSWERED: [Answered; 11] = [
     ("delete a~", "o", "NOT_FOUND~"),
     ("delete a~", "d", "DELETED~"),
     ("touch a 0~", "t", "TOUCHED~"),
+    ("incr a 1~", "6", "6~"),
+    ("decr a 1~", "z", "18446744073709551615~"),
+    ("incr a 1~", "o", "NOT_FOUND~"),
     ("get a~", "r", "SERVER_ERROR error route~"),
     ("version~", "-", "VERSION mcv 1~"),
 ];
@@ -470,6 +491,7 @@ fn leg(rt: &(impl AllocGlobal + Abort), op: Op) -> LegRequest {
         exptime: -1,
         body: shared(rt.alloc(), b"x").expect(rt, "memory"),
         cas: Some(9),
+        delta: 7,
     }
 }
 
@@ -479,7 +501,7 @@ fn check_leg(rt: &(impl AllocGlobal + Abort), op: Op, text: &[u8]) {
     check_bytes(rt, op.name(), &spelled, text);
 }
 
-const LEGS: [(Op, &[u8]); 10] = [
+const LEGS: [(Op, &[u8]); 12] = [
     (Op::Get, b"get k\r\n"),
     (Op::Gets, b"gets k\r\n"),
     (Op::Set, b"set k 5 -1 1\r\nx\r\n"),
@@ -490,6 +512,8 @@ const LEGS: [(Op, &[u8]); 10] = [
     (Op::Cas, b"cas k 5 -1 1 9\r\nx\r\n"),
     (Op::Delete, b"delete k\r\n"),
     (Op::Touch, b"touch k -1\r\n"),
+    (Op::Incr, b"incr k 7\r\n"),
+    (Op::Decr, b"decr k 7\r\n"),
 ];
 
 #[test]

@@ -24,6 +24,11 @@ cas NOT_FOUND| = not found
 delete DELETED| = deleted
 touch NOT_FOUND| = not found
 touch TOUCHED^ = touched
+incr 6| = number
+decr  007  ^ = number
+incr 18446744073709551615| = number
+decr NOT_FOUND| = not found
+incr CLIENT_ERROR cannot increment or decrement non-numeric value| = fault
 delete SERVER_ERROR out of memory| = fault
 get CLIENT_ERROR| = fault
 replace  ERROR | = fault";
@@ -45,6 +50,14 @@ get VALUE a 0 1|x~^END| = more
 get VALUE a 0 1|x|~STORED| = more
 get END|~x = miss
 get END|~END| = miss
+incr 1844674407370955161~6| = more
+incr 6 ~7| = more
+incr 6~x| = more
+incr ~-1| = more
+incr ~| = more
+incr 6|~6| = number
+decr ~TOUCHED| = more
+touch ~6| = more
 get ~| = more
 get ~^ = more";
 
@@ -96,6 +109,7 @@ fn reply_name(reply: &Reply) -> &'static str {
         Reply::NotFound => "not found",
         Reply::Deleted => "deleted",
         Reply::Touched => "touched",
+        Reply::Number(_) => "number",
         Reply::Fault(_) => "fault",
     }
 }

@@ -1,7 +1,7 @@
-use Rattle.std.proofs.Common.{◌+◌, ◌-◌, ◌≤◌, ◌++◌, take, drop, length, ap, ◌∙◌, subst, arith}
+use Rattle.std.proofs.Common.{◌+◌, ◌-◌, ◌≤◌, ◌++◌, Bor, take, drop, length, ap, ◌∙◌, subst, arith}
 use Rattle.std.proofs.lemmas.List.{length-drop, map_push, take_rest}
-use Rattle.mcv_judge.specs.PairsInMemory.{leg_of, legs_of}
-use Rattle.mcv_blocks.specs.MergedLegs.{leaves_of, merge}
+use Rattle.mcv_rules.specs.declared.plan.PlannedLeg.{PlannedLeg}
+use Rattle.mcv_blocks.specs.MergedLegs.{leaf_of, leaves_of, merge}
 use Rattle.mcv_blocks.proofs.MergesRise.{merged_more}
 use Rattle.mcv_blocks.proofs.legs.merged.Goals as goal
 
@@ -22,7 +22,7 @@ loop-next-preserved c =
     record {
       left = let low = so_far.left in omega (arith, some, low, length-drop left first);
       right = let low = so_far.right in omega (arith, others, low, length-drop right second);
-      legs = ap (λ ls. legs_of ls ++ more) c.in_ok-push.ensures.items
-          ∙ ap (λ ls. ls ++ more) (map_push leg_of done next.leg)
-          ∙ merged_more first second left right next.first next.second (legs_of done) (merge (leaves_of first) (leaves_of second)) (leg_of next.leg) (take (length first - left) (drop left first)) (take (length second - right) (drop right second)) e f so_far.legs c.in-Some.ensures.legs;
+      legs = ap (λ ls. leaves_of ls ++ more) c.in_ok-push.ensures.items
+          ∙ ap (λ ls. ls ++ more) (map_push (λ (l : Bor PlannedLeg). leaf_of l.now) done next.leg)
+          ∙ merged_more first second left right next.first next.second (leaves_of done) (merge (leaves_of first) (leaves_of second)) (leaf_of next.leg.now) (take (length first - left) (drop left first)) (take (length second - right) (drop right second)) e f so_far.legs c.in-Some.ensures.legs;
     }

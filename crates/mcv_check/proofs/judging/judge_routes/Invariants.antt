@@ -7,5 +7,5 @@ use Rattle.mcv_check.proofs.judging.judge_routes.Given as goal
 abbrev pub invariant-loop-class : goal.invariant-loop-class
 invariant-loop-class l = record {
   rising : AreRising (pairs_of l.rest);
-  so_far : IsJudgedBefore l.routes l.class-items l.eras (pairs_of l.pairs) (drop l.class-index l.class-items) (pairs_of l.rest);
+  so_far : IsJudgedBefore l.routes l.class-items l.near (pairs_of l.pairs) (drop l.class-index l.class-items) (pairs_of l.rest);
 }

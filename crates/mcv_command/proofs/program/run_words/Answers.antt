@@ -1,10 +1,11 @@
-use Rattle.std.proofs.Common.{◌∙◌, List, None, ap, inl, inr, map, refl, sym, subst}
+use Rattle.std.proofs.Common.{◌∙◌, List, None, Some, ap, inl, inr, map, refl, sym, subst}
 use Rattle.std.proofs.lemmas.Result.{IfErr-weaker, IfOk-weaker, err_from_is_err_and}
 use Rattle.clap.specs.Words.{Text}
 use Rattle.mcv_command.specs.Program.{IsStop}
 use Rattle.mcv_command.specs.declared.stop.Stop.{Stop}
 use Rattle.mcv_command.specs.declared.stop.Stop.TheVariants.{Run}
 use Rattle.mcv_command.proofs.ProgramEnds.{judging_stop, running_stop}
+use Rattle.mcv_words.specs.Words.{order_of}
 use Rattle.mcv_command.proofs.program.run_words.Goals as goal
 
 pub returns-in_err-run_legs-in-Ok-Legs-clause-stop : goal.returns-in_err-run_legs-in-Ok-Legs-clause-stop
@@ -41,35 +42,25 @@ returns-in_err-write_text-in-Err-Version-clause-stop g c =
 pub returns-in-Err-Memory-clause-stop : goal.returns-in-Err-Memory-clause-stop
 returns-in-Err-Memory-clause-stop g c = inl (inl refl)
 
-pub returns-in-Ok-Check-None-clause-done : goal.returns-in-Ok-Check-None-clause-done
-returns-in-Ok-Check-None-clause-done g c =
+pub returns-in-Ok-Check-None-default-clause-done : goal.returns-in-Ok-Check-None-default-clause-done
+returns-in-Ok-Check-None-default-clause-done g c =
     let held = g.F.NamedFiles.held c.args.files.now in
-    let asks = rw (c.in-Ok-Check-None.field-0-is, c.in-Ok-Check-None.field-0-0-is) at c.in-Ok-Check-None.ensures.job in
-    IfOk-weaker c.judge.result _ _ (λ ending judged. inr (inr (inl (None, asks, judged)))) (c.judge.ensures.done held)
+    let asks = rw (c.in-Ok-Check-None-default.field-0-is, c.in-Ok-Check-None-default.field-0-0-is) at c.in-Ok-Check-None-default.ensures.job in
+    IfOk-weaker c.judge.result _ _ (λ ending judged. inr (inr (inl (None, c.in-Ok-Check-None-default.window, asks, judged)))) (c.judge.ensures.done held)
 
-pub returns-in-Ok-Check-None-clause-stop : goal.returns-in-Ok-Check-None-clause-stop
-returns-in-Ok-Check-None-clause-stop g c =
+pub returns-in-Ok-Check-None-default-clause-stop : goal.returns-in-Ok-Check-None-default-clause-stop
+returns-in-Ok-Check-None-default-clause-stop g c =
     let words : List Text = map (λ w. w.now) c.args.words.now in
     let held = g.F.NamedFiles.held c.args.files.now in
     let known = g.R.Read.remaining c.args.reader.now in
-    let asks = rw (c.in-Ok-Check-None.field-0-is, c.in-Ok-Check-None.field-0-0-is) at c.in-Ok-Check-None.ensures.job in
-    IfErr-weaker c.judge.result _ _ (λ stop holds. judging_stop words held known None stop asks holds) (c.judge.ensures.stop held)
-
-pub serve-requires-clause-most : goal.serve-requires-clause-most
-serve-requires-clause-most g c =
-    let asks = rw c.in-Ok-Run.field-0-is at c.in-Ok-Run.ensures.job in
-    asks.5
-
-pub serve-requires-clause-most_proxies : goal.serve-requires-clause-most_proxies
-serve-requires-clause-most_proxies g c =
-    let asks = rw c.in-Ok-Run.field-0-is at c.in-Ok-Run.ensures.job in
-    asks.7
+    let asks = rw (c.in-Ok-Check-None-default.field-0-is, c.in-Ok-Check-None-default.field-0-0-is) at c.in-Ok-Check-None-default.ensures.job in
+    IfErr-weaker c.judge.result _ _ (λ stop holds. judging_stop words held known None c.in-Ok-Check-None-default.window stop asks holds) (c.judge.ensures.stop held)
 
 pub returns-in-Ok-Run-clause-done : goal.returns-in-Ok-Run-clause-done
 returns-in-Ok-Run-clause-done g c =
     let held = g.F.NamedFiles.held c.args.files.now in
     let asks = rw c.in-Ok-Run.field-0-is at c.in-Ok-Run.ensures.job in
-    IfOk-weaker c.serve.result _ _ (λ ending served. inr (inr (inr (c.in-Ok-Run.listen.now, c.in-Ok-Run.spool.now, c.in-Ok-Run.sessions, c.in-Ok-Run.proxies, asks, served)))) (c.serve.ensures.done held)
+    IfOk-weaker c.serve.result _ _ (λ ending served. inr (inr (inr (order_of c.in-Ok-Run.options, asks, served)))) (c.serve.ensures.done held)
 
 pub returns-in-Ok-Run-clause-stop : goal.returns-in-Ok-Run-clause-stop
 returns-in-Ok-Run-clause-stop g c =
@@ -77,12 +68,22 @@ returns-in-Ok-Run-clause-stop g c =
     let held = g.F.NamedFiles.held c.args.files.now in
     let known = g.R.Read.remaining c.args.reader.now in
     let asks = rw c.in-Ok-Run.field-0-is at c.in-Ok-Run.ensures.job in
-    IfErr-weaker c.serve.result _ _ (λ stop holds. running_stop words held known stop (c.in-Ok-Run.listen.now, c.in-Ok-Run.spool.now, c.in-Ok-Run.sessions, c.in-Ok-Run.proxies, asks) holds)
-    (c.serve.ensures.stop held)
+    IfErr-weaker c.serve.result _ _ (λ stop holds. running_stop words held known (order_of c.in-Ok-Run.options) stop asks holds) (c.serve.ensures.stop held)
 
 pub returns-in-Ok-Run-clause-silent : goal.returns-in-Ok-Run-clause-silent
 returns-in-Ok-Run-clause-silent g c =
     let asks = rw c.in-Ok-Run.field-0-is at c.in-Ok-Run.ensures.job in
-    IfErr-weaker c.serve.result _ _
-    (λ stop silent no_device unasked. silent no_device (λ memory. unasked memory (c.in-Ok-Run.listen.now, c.in-Ok-Run.spool.now, c.in-Ok-Run.sessions, c.in-Ok-Run.proxies, asks)))
-    c.serve.ensures.silent
+    IfErr-weaker c.serve.result _ _ (λ stop silent no_device unasked. silent no_device (λ memory. unasked memory (order_of c.in-Ok-Run.options, asks))) c.serve.ensures.silent
+
+pub returns-in-Ok-Check-Some-default-clause-done : goal.returns-in-Ok-Check-Some-default-clause-done
+returns-in-Ok-Check-Some-default-clause-done g c =
+    let asks = rw (c.in-Ok-Check-Some-default.field-0-is, c.in-Ok-Check-Some-default.field-0-0-is) at c.in-Ok-Check-Some-default.ensures.job in
+    IfOk-weaker c.judge_by.result _ _ (λ ending judged. inr (inr (inl (Some c.in-Ok-Check-Some-default.name.now, c.in-Ok-Check-Some-default.window, asks, judged)))) c.judge_by.ensures.done
+
+pub returns-in-Ok-Check-Some-default-clause-stop : goal.returns-in-Ok-Check-Some-default-clause-stop
+returns-in-Ok-Check-Some-default-clause-stop g c =
+    let words : List Text = map (λ w. w.now) c.args.words.now in
+    let held = g.F.NamedFiles.held c.args.files.now in
+    let known = g.R.Read.remaining c.args.reader.now in
+    let asks = rw (c.in-Ok-Check-Some-default.field-0-is, c.in-Ok-Check-Some-default.field-0-0-is) at c.in-Ok-Check-Some-default.ensures.job in
+    IfErr-weaker c.judge_by.result _ _ (λ stop holds. judging_stop words held known (Some c.in-Ok-Check-Some-default.name.now) c.in-Ok-Check-Some-default.window stop asks holds) c.judge_by.ensures.stop

@@ -1,6 +1,7 @@
 use Rattle.std.proofs.Common.{◌∙◌, List, None, ap, ℕ, inl, inr, refl, subst, sym}
 use Rattle.std.proofs.lemmas.Option.{IfSome_then}
 use Rattle.std.proofs.lemmas.Result.{err_from_is_err_and}
+use Rattle.mcv_route.specs.Routes.{within}
 use Rattle.mcv_verdict.specs.Verdict.{IsVerdict}
 use Rattle.mcv_verdict.specs.declared.verdict.Verdict.TheVariants as verdicts
 use Rattle.mcv_command.specs.Program.{IsJudgingFault}
@@ -13,7 +14,7 @@ pub returns-in_err-accepted-clause-stop : goal.returns-in_err-accepted-clause-st
 returns-in_err-accepted-clause-stop g c held =
     let known = g.R.Read.remaining c.args.reader.now in
     let gone = err_from_is_err_and c.from_residual.result c.from_residual.ensures.1 in
-    rw (gone.1) (subst (λ (stop : Stop). IsJudgingFault held None known stop) (sym gone.2) (inr c.in_err-accepted.ensures.fault))
+    rw (gone.1) (subst (λ (stop : Stop). IsJudgingFault held None c.args.options.settings.window.seconds known stop) (sym gone.2) (inr c.in_err-accepted.ensures.fault))
 
 pub returns-in_default-clause-stop : goal.returns-in_default-clause-stop
 returns-in_default-clause-stop g c held = inl (inl refl)
@@ -22,7 +23,7 @@ pub returns-in_err-serve-in-Covered-clause-stop : goal.returns-in_err-serve-in-C
 returns-in_err-serve-in-Covered-clause-stop g c held =
     let known = g.R.Read.remaining c.args.reader.now in
     let gone = err_from_is_err_and c.from_residual-in_err-serve-in-Covered.result c.from_residual-in_err-serve-in-Covered.ensures.1 in
-    rw (gone.1) (subst (λ (stop : Stop). IsJudgingFault held None known stop) (sym gone.2) (inl c.in_err-serve-in-Covered.ensures.fault))
+    rw (gone.1) (subst (λ (stop : Stop). IsJudgingFault held None c.args.options.settings.window.seconds known stop) (sym gone.2) (inl c.in_err-serve-in-Covered.ensures.fault))
 
 pub returns-in_err-serve-in-Covered-clause-silent : goal.returns-in_err-serve-in-Covered-clause-silent
 returns-in_err-serve-in-Covered-clause-silent g c =
@@ -33,7 +34,7 @@ pub returns-in_err-write_text-in-Lost-clause-stop : goal.returns-in_err-write_te
 returns-in_err-write_text-in-Lost-clause-stop g c held =
     let known = g.R.Read.remaining c.args.reader.now in
     let gone = err_from_is_err_and c.from_residual-in_err-write_text-in-Lost.result c.from_residual-in_err-write_text-in-Lost.ensures.1 in
-    rw (gone.1) (subst (λ (stop : Stop). IsJudgingFault held None known stop) (sym gone.2) (inl (inr c.in_err-write_text-in-Lost.ensures.fault)))
+    rw (gone.1) (subst (λ (stop : Stop). IsJudgingFault held None c.args.options.settings.window.seconds known stop) (sym gone.2) (inl (inr c.in_err-write_text-in-Lost.ensures.fault)))
 
 pub returns-in_err-write_text-in-Lost-clause-silent : goal.returns-in_err-write_text-in-Lost-clause-silent
 returns-in_err-write_text-in-Lost-clause-silent g c =
@@ -51,7 +52,7 @@ returns-clause-done g c held =
         IfSome_then (g.R.Read.remaining c.args.reader.now) judged.1 (λ bytes named. (
           judged.0,
           named,
-          subst (λ (xs : List ℕ). IsVerdict judged.0 verdicts.Lost xs) (sym c.as_slice.ensures.value) judged.2,
+          subst (λ (xs : List ℕ). IsVerdict (within c.args.options.settings.window.seconds judged.0) verdicts.Lost xs) (sym c.as_slice.ensures.value) judged.2,
         )),
         c.in_ok-write_text-in-Lost.ensures.written,
         refl,

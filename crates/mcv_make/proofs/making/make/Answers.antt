@@ -9,4 +9,4 @@ returns-in_ok-find-in-Err-Lost-clause-lost c =
     let r = c.args.routes.now in
     let found = c.in_ok-find-in-Err-Lost in
     let first = subst (IsRightFault r) c.in-Err-Lost.field-0-is c.in-Err-Lost.ensures.lost in
-    first_of_gap r c.servers-servers.ensures.sound c.in-Err-Lost.gap (finding_of found.field-0) first found.ensures.at_gap found.ensures.breaks
+    first_of_gap r c.servers-servers.ensures.sound c.in-Err-Lost.gap (finding_of found.field-0) found.ensures.shown.2.window first found.ensures.at_gap found.ensures.breaks

@@ -1,9 +1,10 @@
 use Rattle.std.proofs.Common.{◌≡◌, ◌++◌, Ok, None, arith, subst, sym, take}
+use Rattle.std.proofs.lemmas.Result.{err_from_is_err_and}
 use Rattle.std.specs.Arc.{arc_value}
 use Rattle.std.specs.Io.KnownBytes.{Consumes}
 use Rattle.mcv_reply.specs.Reader.{Feeds}
 use Rattle.mcv_net.specs.Exchange.{SpellsReply}
-use Rattle.mcv_net.proofs.Reading.{HasCome, IsFed, come_more, come_refused, come_still, fed_answers, fed_on, not_spelled, taken_some}
+use Rattle.mcv_net.proofs.Reading.{HasCome, IsFed, come_more, come_refused, come_still, come_unread, fed_answers, fed_on, not_spelled, taken_some}
 use Rattle.mcv_net.proofs.exchange.read_reply.Goals as goal
 use Rattle.mcv_net.proofs.exchange.read_reply.Goals.{then-count-gt0+in-Ok-None, else-count-gt0}
 
@@ -13,6 +14,13 @@ returns-in-Err g c =
     let answered = fed_answers _ _ _ _ was.0 _ _ was.1 c.in-Err.ensures in
     come_refused (SpellsReply c.args.leg.now.op (arc_value c.args.leg.now.rest)) _ _ _ _ was.0 _ c.in-Err.fault _ was.2 c.in_ok-count.ensures.read
     (taken_some _ _ c.if-count-gt0.true c.in_ok-count.ensures.within) (not_spelled _ _ _ c.in-Err.fault _ answered) c.refused.ensures
+
+pub returns-in_err-count : goal.returns-in_err-count
+returns-in_err-count g c =
+    let p = err_from_is_err_and c.from_residual.result c.from_residual.ensures.1 in
+    let was = c.loop-read.invariant in
+    let still = come_still (SpellsReply c.args.leg.now.op (arc_value c.args.leg.now.rest)) _ _ _ _ was.0 was.2 c.in_err-count.ensures.unread in
+    rw (p.1, p.2) (come_unread (SpellsReply c.args.leg.now.op (arc_value c.args.leg.now.rest)) _ _ _ was.0 _ still c.in_err-count.ensures.lost)
 
 pub loop-read-preserved : goal.loop-read-preserved
 loop-read-preserved g c =

@@ -1,8 +1,9 @@
 use Rattle.std.proofs.Common.{◌≡◌, ◌∙◌, ◌++◌, Ok, None, arith, subst, sym, take}
+use Rattle.std.proofs.lemmas.Result.{err_from_is_err_and}
 use Rattle.std.specs.Io.KnownBytes.{Consumes}
 use Rattle.mcv_reply.specs.Probe.{FeedsProbe}
 use Rattle.mcv_net.specs.Exchange.{AnswersProbe}
-use Rattle.mcv_net.proofs.Reading.{HasCome, come_more, come_refused, come_still, come_whole, not_answered, probe_answers, taken_some}
+use Rattle.mcv_net.proofs.Reading.{HasCome, come_more, come_refused, come_still, come_unread, come_whole, not_answered, probe_answers, taken_some}
 use Rattle.mcv_net.proofs.exchange.read_version.Goals as goal
 use Rattle.mcv_net.proofs.exchange.read_version.Goals.{then-count-gt0+in-Ok-None, else-count-gt0}
 
@@ -19,6 +20,13 @@ returns-in-Err g c =
     let answered = probe_answers _ _ was.0 _ _ was.1 c.in-Err.ensures in
     come_refused (AnswersProbe {X = Unit {0}}) _ _ _ _ was.0 _ c.in-Err.fault _ was.2 c.in_ok-count.ensures.read
     (taken_some _ _ c.if-count-gt0.true c.in_ok-count.ensures.within) (not_answered (Unit {0}) _ c.in-Err.fault _ answered) c.refused.ensures
+
+pub returns-in_err-count : goal.returns-in_err-count
+returns-in_err-count g c =
+    let p = err_from_is_err_and c.from_residual.result c.from_residual.ensures.1 in
+    let was = c.loop-read.invariant in
+    let still = come_still (AnswersProbe {X = Unit {0}}) _ _ _ _ was.0 was.2 c.in_err-count.ensures.unread in
+    rw (p.1, p.2) (come_unread (AnswersProbe {X = Unit {0}}) _ _ _ was.0 _ still c.in_err-count.ensures.lost)
 
 pub loop-read-preserved : goal.loop-read-preserved
 loop-read-preserved g c =

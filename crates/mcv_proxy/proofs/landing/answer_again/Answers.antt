@@ -15,7 +15,16 @@ invariant_of-performed g c =
         stored = subst P c.core.ensures (sym c.record-number.ensures);
         reply = c.args.reply;
         step = c.in-Ok.step;
-        event = c.in-Ok.ensures.event;
+        event = c.in-Ok.ensures;
         performed = c.in-Performed.is;
       } ∣₁;
     }
+
+pub returns-in-Performed : goal.returns-in-Performed
+returns-in-Performed g c = record { result = c.answered.result; event = c.answered.ensures }
+
+pub returns-in-Waiting : goal.returns-in-Waiting
+returns-in-Waiting g c = record { result = c.answered.result; event = c.answered.ensures }
+
+pub returns-in_default : goal.returns-in_default
+returns-in_default g c = record { result = c.answered.result; event = c.answered.ensures }

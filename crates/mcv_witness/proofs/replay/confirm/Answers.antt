@@ -15,18 +15,18 @@ returns-then-not-is_choice c =
     let f = finding_of c.args.finding.now in
     let scene = c.in-Some.scene in
     let tests : has_indexes f.choice 0 routes.symbols ≡ false = sym (c.is_choice.ensures ∙ ap (λ x. has_indexes f.choice 0 x) (c.as_slice.ensures.value ∙ c.symbols.ensures.value)) ∙ c.if-not-is_choice.true in
-    no_choice routes f (view scene.route.now) scene.rest (option_map (λ m. m.0) scene.since) c.in-Some.ensures (λ h. false≢true (sym tests ∙ choice_indexes f.choice routes.symbols h))
+    no_choice routes f (view scene.route.now) scene.rest (option_map (λ m. m.0) scene.since) (option_map (λ m. m.0) scene.read) c.in-Some.ensures (λ h. false≢true (sym tests ∙ choice_indexes f.choice routes.symbols h))
 
 pub returns-then-not-has_leaf : goal.returns-then-not-has_leaf
 returns-then-not-has_leaf c =
     let scene = c.in-Some.scene in
     let placed = c.in-Some.ensures in
-    no_leaf c.args.routes.now (finding_of c.args.finding.now) (view scene.route.now) scene.rest (option_map (λ m. m.0) scene.since) placed c.has_leaf.result c.if-not-has_leaf.true (c.has_leaf.ensures (view scene.route.now) placed.route)
+    no_leaf c.args.routes.now (finding_of c.args.finding.now) (view scene.route.now) scene.rest (option_map (λ m. m.0) scene.since) (option_map (λ m. m.0) scene.read) placed c.has_leaf.result c.if-not-has_leaf.true (c.has_leaf.ensures (view scene.route.now) placed.route)
 
 pub returns-then-not-is_read : goal.returns-then-not-is_read
 returns-then-not-is_read c =
     let scene = c.in-Some.scene in
-    not_read c.args.routes.now (finding_of c.args.finding.now) (view scene.route.now) scene.rest (option_map (λ m. m.0) scene.since) c.in-Some.ensures c.is_read.result c.if-not-is_read.true c.is_read.ensures
+    not_read c.args.routes.now (finding_of c.args.finding.now) (view scene.route.now) scene.rest (option_map (λ m. m.0) scene.since) (option_map (λ m. m.0) scene.read) c.in-Some.ensures c.is_read.result c.if-not-is_read.true c.is_read.ensures
 
 pub returns : goal.returns
 returns c =
@@ -35,5 +35,5 @@ returns c =
     let scene = c.in-Some.scene in
     let placed = c.in-Some.ensures in
     let tests = sym (c.is_choice.ensures ∙ ap (λ x. has_indexes f.choice 0 x) (c.as_slice.ensures.value ∙ c.symbols.ensures.value)) ∙ c.if-not-is_choice.false in
-    all_but_missed routes f (view scene.route.now) scene.rest (option_map (λ m. m.0) scene.since) placed (indexes_choice f.choice routes.symbols tests)
+    all_but_missed routes f (view scene.route.now) scene.rest (option_map (λ m. m.0) scene.since) (option_map (λ m. m.0) scene.read) placed (indexes_choice f.choice routes.symbols tests)
     ((c.has_leaf.ensures (view scene.route.now) placed.route).0 c.if-not-has_leaf.false) (c.is_read.ensures.0 c.if-not-is_read.false) c.is_missed.result c.is_missed.ensures

@@ -8,15 +8,15 @@ use Rattle.mcv_witness.specs.Walk.{pass}
 use Rattle.mcv_witness.proofs.BreakDecision.{no_get, reads, unsorted_gets}
 use Rattle.mcv_witness.proofs.replay.is_read.Goals as goal
 
-pub returns-then-not-is_reading : goal.returns-then-not-is_reading
-returns-then-not-is_reading c =
+pub returns-then-not-shows_value : goal.returns-then-not-shows_value
+returns-then-not-shows_value c =
     let scene = c.args.scene.now in
-    no_get (finding_of c.args.finding.now) (view scene.route.now) scene.rest (option_map (λ m. m.0) scene.since) (sym c.is_reading.ensures ∙ c.if-not-is_reading.true)
+    no_get (finding_of c.args.finding.now) (view scene.route.now) scene.rest (option_map (λ m. m.0) scene.read) (sym c.shows_value.ensures ∙ c.if-not-shows_value.true)
 
 pub returns-then-not-are_rising : goal.returns-then-not-are_rising
 returns-then-not-are_rising c =
     let scene = c.args.scene.now in
-    unsorted_gets (finding_of c.args.finding.now) (view scene.route.now) scene.rest (option_map (λ m. m.0) scene.since)
+    unsorted_gets (finding_of c.args.finding.now) (view scene.route.now) scene.rest (option_map (λ m. m.0) scene.read)
     (sym (c.are_rising.ensures ∙ ap (λ x. are_rising (outcomes_of x)) c.as_slice.ensures.value) ∙ c.if-not-are_rising.true)
 
 pub returns : goal.returns
@@ -25,7 +25,7 @@ returns c =
     let finding = c.args.finding.now in
     let f = finding_of finding in
     let t = view scene.route.now in
-    let since = option_map (λ m. m.0) scene.since in
-    reads f t scene.rest since c.is_hit.result (sym c.is_reading.ensures ∙ c.if-not-is_reading.false)
+    let read = option_map (λ m. m.0) scene.read in
+    reads f t scene.rest read c.is_hit.result (sym c.shows_value.ensures ∙ c.if-not-shows_value.false)
     (sym (c.are_rising.ensures ∙ ap (λ x. are_rising (outcomes_of x)) c.as_slice.ensures.value) ∙ c.if-not-are_rising.false)
-    (c.is_hit.ensures ∙ ap hit_seen (c.seen.ensures ∙ ap (λ x. pass f.place.leaf f.server (chosen f) t (asked f.op scene.rest since) (record { legs = outcomes_of x; depth = 0 })) c.as_slice-2.ensures.value))
+    (c.is_hit.ensures ∙ ap hit_seen (c.seen.ensures ∙ ap (λ x. pass f.place.leaf f.server (chosen f) t (asked f.op scene.rest read) (record { legs = outcomes_of x; depth = 0 })) c.as_slice-2.ensures.value))

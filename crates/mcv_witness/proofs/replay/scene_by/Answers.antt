@@ -1,10 +1,10 @@
-use Rattle.std.proofs.Common.{◌↔◌, ℕ, List, option_map, ap, subst, ◌∙◌, arith}
+use Rattle.std.proofs.Common.{◌↔◌, ℕ, List, option_map, ap, subst, ◌∙◌}
 use Rattle.std.specs.Prelude.{IsTrue, slice_get}
 use Rattle.mcv_classes.specs.Class.{IsClassWord}
 use Rattle.mcv_classes.specs.Words.{class_words}
 use Rattle.mcv_route.specs.View.{view}
 use Rattle.mcv_witness.specs.Finding.{finding_of}
-use Rattle.mcv_witness.proofs.BreakDecision.{found_at, no_era, no_route, no_tree, other_class, other_route}
+use Rattle.mcv_witness.proofs.BreakDecision.{found_at, no_eras, no_route, no_tree, other_class, other_route}
 use Rattle.mcv_witness.proofs.replay.scene_by.Goals as goal
 
 pub returns-in_err-number : goal.returns-in_err-number
@@ -20,11 +20,8 @@ returns-in_err-route c =
     let f = finding_of c.args.finding.now in
     rw c.from_residual-in_err-route.ensures (no_tree c.args.routes.now f (c.in_err-route.ensures ∙ ap (λ n. option_map (λ e. e.tree) (slice_get c.args.routes.now.entries n)) c.if-number-finding.false))
 
-pub returns-then-finding-era_count : goal.returns-then-finding-era_count
-returns-then-finding-era_count c =
-    let f = finding_of c.args.finding.now in
-    let past = c.if-finding-era_count.true in
-    no_era c.args.routes.now f (λ h. let low = (c.era_count.ensures c.args.finding.now.place.era).1 h in omega (arith, low, past))
+pub returns-in_err-eras : goal.returns-in_err-eras
+returns-in_err-eras c = rw c.from_residual-in_err-eras.ensures (no_eras c.args.routes.now (finding_of c.args.finding.now) c.in_err-eras.ensures)
 
 pub returns-then-not-is_class_word : goal.returns-then-not-is_class_word
 returns-then-not-is_class_word c =
@@ -38,8 +35,8 @@ pub returns : goal.returns
 returns c =
     let f = finding_of c.args.finding.now in
     let t = view c.in_ok-route.route.now in
-    let low = c.if-finding-era_count.false in
-    found_at c.args.routes.now f c.args.prefix.now c.args.rest t (option_map (λ m. m.0) c.opened-since.result) c.in_ok-number.number c.requires.word c.requires.cut c.as_bytes.ensures.rest
+    let eras = c.in_ok-eras.eras in
+    found_at c.args.routes.now f c.args.prefix.now c.args.rest t (option_map (λ m. m.0) eras.since) (option_map (λ m. m.0) eras.read) c.in_ok-number.number c.requires.word c.requires.cut c.as_bytes.ensures.rest
     c.in_ok-number.ensures c.if-number-finding.false c.in_ok-route.ensures
     ((subst (λ (w : List ℕ). IsTrue c.is_class_word.result ↔ IsClassWord (class_words t) c.args.rest w) c.as_slice.ensures.value c.is_class_word.ensures).0 c.if-not-is_class_word.false)
-    (c.opened-since.ensures.some ((c.era_count.ensures c.args.finding.now.place.era).0 low))
+    c.in_ok-eras.ensures

@@ -1,12 +1,13 @@
 use Rattle.std.proofs.Common.{◌≡◌, ◌∙◌, inl, inr, List, false, sym, subst, true, ap, map, refl, codes, true≢false}
 use Rattle.clap.specs.Words.{App, Text, HasKind, fault_of, found_of, is_simple, is_simple_and_free, kind_of, rows_of, subcommand_of}
 use Rattle.std.specs.Str.Parse.{ParsesUnsigned, ExplainsUnsignedError, HasUnsignedDigitsIfOk}
-use Rattle.clap.proofs.WalkLemmas.{first_value-rows, one_text-rows}
+use Rattle.clap.proofs.WalkLemmas.{one_text-rows}
 use Rattle.clap.proofs.OnLiterals.{clap_on_literals}
 use Rattle.clap.proofs.ValueTestLemmas.{accepts-Accepts}
-use Rattle.mcv_words.specs.Words.{mcv_app, proxy_limit, session_limit}
-use Rattle.mcv_words.proofs.OptionValues.{at_parser, legs_values, run_values}
-use Rattle.mcv_words.proofs.Matches.{fault_of_kind, named_rows, name_of_rows, no_number, number_of, number_spelt, run_asked}
+use Rattle.mcv_words.specs.Ranges.{window_limit}
+use Rattle.mcv_words.specs.Words.{mcv_app}
+use Rattle.mcv_words.proofs.OptionValues.{at_parser, check_values, legs_values, run_values}
+use Rattle.mcv_words.proofs.Matches.{can_run, check_asked, fault_of_kind, given_in, named_rows, name_of_rows, no_number, number_of, run_asked}
 use Rattle.mcv_words.proofs.CommandIsNamed.{taken}
 use Rattle.mcv_words.proofs.words.read_words.Goals as goal
 
@@ -25,17 +26,23 @@ returns-in-Err-clause-fault c =
     (c.in-Err.ensures.kinds (ap is_simple_and_free c.in_ok-command.ensures ∙ free)) in
     fault_of_kind words (kind_of c.in-Err.error) c.line_fault.result kinds c.line_fault.ensures
 
+pub returns-in_default-check_job-clause-fault : goal.returns-in_default-check_job-clause-fault
+returns-in_default-check_job-clause-fault c =
+    let words : List Text = map (λ w. w.now) c.args.words.now in
+    let held = (c.in-Ok.ensures.matches (ap is_simple c.in_ok-command.ensures ∙ simple)).1 ∙ ap (λ (a : App). subcommand_of a words) c.in_ok-command.ensures in
+    let none = sym (ap (λ (a : App). fault_of a words) c.in_ok-command.ensures) ∙ c.in-Ok.ensures.kinds (ap is_simple_and_free c.in_ok-command.ensures ∙ free) in
+    let found = found_of c.in-Some.found.now in
+    let check = sym held ∙ named_rows c.in-Ok.matches (codes "check") (rows_of found) (c.in-Some.ensures.found.0 refl) c.in-Some.ensures.rows in
+    absurd (true≢false (sym (c.in_default-check_job.ensures.ok (given_in (codes "window") 0 window_limit (rows_of found) (check_values words (rows_of found) none check)))))
+
 pub returns-in-Some-clause-job : goal.returns-in-Some-clause-job
 returns-in-Some-clause-job c =
     let words : List Text = map (λ w. w.now) c.args.words.now in
     let held = (c.in-Ok.ensures.matches (ap is_simple c.in_ok-command.ensures ∙ simple)).1 ∙ ap (λ (a : App). subcommand_of a words) c.in_ok-command.ensures in
     let none = sym (ap (λ (a : App). fault_of a words) c.in_ok-command.ensures) ∙ c.in-Ok.ensures.kinds (ap is_simple_and_free c.in_ok-command.ensures ∙ free) in
-    let found = found_of c.in-Some.found.now in (
-      none,
-      rows_of found,
-      sym held ∙ named_rows c.in-Ok.matches (codes "check") (rows_of found) (c.in-Some.ensures.found.0 refl) c.in-Some.ensures.rows,
-      c.get_str-cert.ensures ∙ first_value-rows found (codes "cert"),
-    )
+    let found = found_of c.in-Some.found.now in
+    let check = sym held ∙ named_rows c.in-Ok.matches (codes "check") (rows_of found) (c.in-Some.ensures.found.0 refl) c.in-Some.ensures.rows in
+    check_asked words (rows_of found) c.in-Ok-check_job.job none check c.in-Ok-check_job.ensures.job
 
 pub returns-in_default-run_job-clause-fault : goal.returns-in_default-run_job-clause-fault
 returns-in_default-run_job-clause-fault c =
@@ -44,10 +51,7 @@ returns-in_default-run_job-clause-fault c =
     let none = sym (ap (λ (a : App). fault_of a words) c.in_ok-command.ensures) ∙ c.in-Ok.ensures.kinds (ap is_simple_and_free c.in_ok-command.ensures ∙ free) in
     let found = found_of c.in-Some-subcommand_matches.found.now in
     let run = sym held ∙ named_rows c.in-Ok.matches (codes "run") (rows_of found) (c.in-Some-subcommand_matches.ensures.found.0 refl) c.in-Some-subcommand_matches.ensures.rows in
-    let has = run_values words (rows_of found) none run in
-    let sessions = number_spelt (codes "sessions") 1 session_limit (rows_of found) has.2 has.6 has.7 in
-    let proxies = number_spelt (codes "proxies") 1 proxy_limit (rows_of found) has.3 has.8 has.9 in
-    absurd (true≢false (sym (c.in_default-run_job.ensures.some has.0 has.1 sessions.0 proxies.0 (has.4, has.5, sessions.1, proxies.1) sessions.2 proxies.2)))
+    absurd (true≢false (sym (c.in_default-run_job.ensures.ok (can_run (rows_of found) (run_values words (rows_of found) none run)))))
 
 pub returns-in-Some-subcommand_matches-clause-job : goal.returns-in-Some-subcommand_matches-clause-job
 returns-in-Some-subcommand_matches-clause-job c =
@@ -56,7 +60,7 @@ returns-in-Some-subcommand_matches-clause-job c =
     let none = sym (ap (λ (a : App). fault_of a words) c.in_ok-command.ensures) ∙ c.in-Ok.ensures.kinds (ap is_simple_and_free c.in_ok-command.ensures ∙ free) in
     let found = found_of c.in-Some-subcommand_matches.found.now in
     let run = sym held ∙ named_rows c.in-Ok.matches (codes "run") (rows_of found) (c.in-Some-subcommand_matches.ensures.found.0 refl) c.in-Some-subcommand_matches.ensures.rows in
-    run_asked words (rows_of found) c.in-Some-run_job.job none run (run_values words (rows_of found) none run) c.in-Some-run_job.ensures.job
+    run_asked words (rows_of found) c.in-Ok-run_job.job none run c.in-Ok-run_job.ensures.job
 
 pub returns-in_default-subcommand_matches-2-clause-fault : goal.returns-in_default-subcommand_matches-2-clause-fault
 returns-in_default-subcommand_matches-2-clause-fault c =

@@ -1,42 +1,32 @@
-use Rattle.std.proofs.Common.{◌≡◌, ◌∙◌, codes, sym, refl, None, Some}
-use Rattle.clap.specs.Words.{found_of, one_of, rows_of}
-use Rattle.std.specs.Str.Parse.{ParsesUnsigned, ExplainsUnsignedError, HasUnsignedDigitsIfOk}
-use Rattle.clap.proofs.WalkLemmas.{first_value-rows, one_text-rows}
-use Rattle.mcv_words.proofs.Matches.{no_number, number_read}
+use Rattle.std.proofs.Common.{◌≡◌, ◌∙◌, None, Option, codes, subst, sym}
+use Rattle.std.specs.Prelude.{IsSome}
+use Rattle.clap.specs.Words.{Text, first_of, found_of, rows_of}
+use Rattle.clap.proofs.WalkLemmas.{first_value-rows}
 use Rattle.mcv_words.proofs.words.run_job.Goals as goal
 
-pub returns-in_err-listen-clause-some : goal.returns-in_err-listen-clause-some
-returns-in_err-listen-clause-some c listen spool sessions proxies has fits few =
-    let none : None ≡ Some listen = c.in_err-listen.ensures ∙ (first_value-rows (found_of c.args.found.now) (codes "listen") ∙ has.0) in
-    absurd (cc)
+pub returns-in_default-clause-ok : goal.returns-in_default-clause-ok
+returns-in_default-clause-ok c can =
+    let found = found_of c.args.found.now in
+    let none : None ≡ first_of (codes "listen") (rows_of found) = c.in_default.ensures ∙ first_value-rows found (codes "listen") in
+    subst (λ (o : Option Text). IsSome o) (sym none) can.listen
 
-pub returns-in_err-spool-clause-some : goal.returns-in_err-spool-clause-some
-returns-in_err-spool-clause-some c listen spool sessions proxies has fits few =
-    let none : None ≡ Some spool = c.in_err-spool.ensures ∙ (first_value-rows (found_of c.args.found.now) (codes "spool") ∙ has.1) in
-    absurd (cc)
-
-pub returns-in_err-sessions-clause-some : goal.returns-in_err-sessions-clause-some
-returns-in_err-sessions-clause-some c listen spool sessions proxies has fits few =
-    let number = has.2 in
-    absurd (no_number (λ bs r. ParsesUnsigned 64 10 bs r × ExplainsUnsignedError 10 bs r × HasUnsignedDigitsIfOk bs r) number.0 (λ t x h. h.0) number.2 (rw number.3 at fits)
-    (c.in_err-sessions.ensures.value number.0 (one_text-rows (found_of c.args.found.now) (codes "sessions") ∙ number.1)))
-
-pub returns-in_err-proxies-clause-some : goal.returns-in_err-proxies-clause-some
-returns-in_err-proxies-clause-some c listen spool sessions proxies has fits few =
-    let number = has.3 in
-    absurd (no_number (λ bs r. ParsesUnsigned 64 10 bs r × ExplainsUnsignedError 10 bs r × HasUnsignedDigitsIfOk bs r) number.0 (λ t x h. h.0) number.2 (rw number.3 at few)
-    (c.in_err-proxies.ensures.value number.0 (one_text-rows (found_of c.args.found.now) (codes "proxies") ∙ number.1)))
+pub returns-in_default-get_str-clause-ok : goal.returns-in_default-get_str-clause-ok
+returns-in_default-get_str-clause-ok c can =
+    let found = found_of c.args.found.now in
+    let none : None ≡ first_of (codes "spool") (rows_of found) = c.in_default-get_str.ensures ∙ first_value-rows found (codes "spool") in
+    subst (λ (o : Option Text). IsSome o) (sym none) can.spool
 
 pub returns-clause-job : goal.returns-clause-job
 returns-clause-job c =
     let found = found_of c.args.found.now in
-    let rows = rows_of found in
-    let same = one_text-rows found (codes "sessions") in
-    let alike = one_text-rows found (codes "proxies") in (
-      sym (c.in_ok-listen.ensures ∙ first_value-rows found (codes "listen")),
-      sym (c.in_ok-spool.ensures ∙ first_value-rows found (codes "spool")),
-      number_read (λ bs r. ParsesUnsigned 64 10 bs r × ExplainsUnsignedError 10 bs r × HasUnsignedDigitsIfOk bs r) (codes "sessions") rows (one_of (codes "sessions") rows)
-          c.in_ok-sessions.sessions (λ t x h. h.0) refl (λ none. c.in_ok-sessions.ensures.none (same ∙ none)) (λ t is. c.in_ok-sessions.ensures.value t (same ∙ is)),
-      number_read (λ bs r. ParsesUnsigned 64 10 bs r × ExplainsUnsignedError 10 bs r × HasUnsignedDigitsIfOk bs r) (codes "proxies") rows (one_of (codes "proxies") rows)
-          c.in_ok-proxies.proxies (λ t x h. h.0) refl (λ none. c.in_ok-proxies.ensures.none (alike ∙ none)) (λ t is. c.in_ok-proxies.ensures.value t (alike ∙ is)),
-    )
+    record {
+      listen = sym (c.in-Some.ensures ∙ first_value-rows found (codes "listen"));
+      spool = sym (c.in-Some-get_str.ensures ∙ first_value-rows found (codes "spool"));
+      settings = record {
+        sessions = c.in_ok-sessions.ensures.number;
+        proxies = rw c.in-Some-2.is at c.in_ok-proxies.ensures.number;
+        window = rw c.in-Some-3.is at c.in_ok-window.ensures.number;
+        server_timeout = c.in_ok-server_timeout.ensures.number;
+        client_timeout = c.in_ok-client_timeout.ensures.number;
+      };
+    }

@@ -68,14 +68,10 @@ returns-clause-view c =
     ∙ ap (λ m. rows_of (calls_at c.add.new.self) (legs c.launch-launched.new.queues) (since_of d) (suc d.next_call) m) number
     ∙ BegunCalls.rows_are d call c.requires c.launch-launched.new.self.entries c.launch-launched.new.queues c.launch-launched.ensures.launched c.add.new.self calls_are state_of refl in
     let entries = ap (λ m. d.entries + (2 + 3 * m)) c.requires.unlaunched.left in
+    let records = ap records_in c.launch-launched.ensures.launched.legs_are
+    ∙ SpoolNumbers.records_launched d.next_leg (fresh call.state) call.entries.items (legs d.queues) (BegunCalls.can_launch d call c.requires).free in
     let flights = fun_ext c.launch-launched.ensures.flights in
-    λ j. record (core_view d) { rows = rows j; flights = flights j; entries = entries j }
+    λ j. record (core_view d) { rows = rows j; records = records j; flights = flights j; entries = entries j }
 
 pub returns-clause-moves : goal.returns-clause-moves
 returns-clause-moves c = subst (λ v. Moved (core_view c.args.self.now) v (began_by c.args.call)) (sym (returns-clause-view c)) (BegunCalls.moved c.args.self.now c.args.call c.requires)
-
-pub returns-clause-records : goal.returns-clause-records
-returns-clause-records c =
-    let d = c.args.self.now in
-    ap records_in c.launch-launched.ensures.launched.legs_are
-    ∙ SpoolNumbers.records_launched d.next_leg (fresh c.args.call.state) c.args.call.entries.items (legs d.queues) (BegunCalls.can_launch d c.args.call c.requires).free

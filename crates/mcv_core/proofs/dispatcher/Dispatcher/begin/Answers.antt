@@ -4,7 +4,6 @@ use Rattle.std.specs.Prelude.{slice_get}
 use Rattle.mcv_route.specs.View.{view}
 use Rattle.mcv_core.specs.Beginning.{HasLegRoom, HasRoom}
 use Rattle.mcv_core.proofs.BegunCalls
-use Rattle.mcv_core.proofs.DeletesStayKept
 use Rattle.mcv_core.proofs.dispatcher.Dispatcher.begin.Goals as goal
 
 pub start-requires : goal.start-requires
@@ -27,8 +26,5 @@ returns-in-Err-clause-refused c =
     let rest : c.deref-2.result.now ≡ arc_value c.args.asked.rest = search rules in
     let opened = rw rest at c.in_ok-laid.ensures in
     let count : c.len.result ≡ length c.in_ok-laid.laid.1.items = search rules in
-    BegunCalls.refused_as d c.args.asked c.in_ok-laid.laid.1.items c.in-Err.fault (BegunCalls.laid_for d c.args.asked c.in_ok-laid.laid.0 c.in_ok-laid.laid.1.items (view c.in-Some.tree.now) at opened) c.in-Err.ensures.legs
+    BegunCalls.unstarted_as d c.args.asked c.in_ok-laid.laid.1.items c.in-Err.fault (BegunCalls.planned_for d c.args.asked c.in_ok-laid.laid.0 c.in_ok-laid.laid.1.items (view c.in-Some.tree.now) at opened) c.in-Err.ensures.legs
     (λ e. subst (λ n. HasLegRoom d n → ⊥) count (c.in-Err.ensures.full e)) (λ e. subst (λ n. HasLegRoom d n × (1000000 < d.entries + (2 + 3 * n))) count (c.in-Err.ensures.entries e))
-
-pub returns-in-Ok-clause-keeps : goal.returns-in-Ok-clause-keeps
-returns-in-Ok-clause-keeps c = DeletesStayKept.moved_keep c.start.result _ _ _ c.start.ensures.moves

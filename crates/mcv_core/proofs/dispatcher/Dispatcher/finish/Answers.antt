@@ -10,13 +10,12 @@ use Rattle.mcv_events.specs.Rows.{is_unanswered}
 use Rattle.mcv_core.specs.CoreView.{HasDone, at_row, finished, state_after, step_to}
 use Rattle.mcv_core.specs.Rows.{awaiting_state, row_by, state_of}
 use Rattle.mcv_core.specs.Settling.{settled_row}
-use Rattle.mcv_core.specs.View.{core_view, records_after, records_of}
+use Rattle.mcv_core.specs.View.{core_view}
 use Rattle.mcv_core.specs.declared.settle.Settling.TheVariants as kinds
 use Rattle.mcv_core.specs.declared.step.Change.TheVariants as changes
 use Rattle.mcv_core.specs.declared.step.LegState.TheVariants as leg_states
 use Rattle.mcv_core.proofs.Landings
 use Rattle.mcv_core.proofs.LegViews
-use Rattle.mcv_core.proofs.SpoolNumbers
 use Rattle.mcv_core.proofs.dispatcher.Dispatcher.finish.Goals as goal
 
 pub settle-requires : goal.settle-requires
@@ -31,8 +30,8 @@ settle-requires c =
       one = c.requires.one;
     }
 
-pub returns-clause-done : goal.returns-clause-done
-returns-clause-done c =
+pub returns : goal.returns
+returns c =
     let d = c.args.self.now in
     let n = c.args.leg.0 in
     let l = Landings.seen (legs d.queues n) c.args.facts c.requires.at in
@@ -41,9 +40,4 @@ returns-clause-done c =
     c.after-state.ensures ∙ ap (λ b. cond (is_delete c.args.facts.op && not b) leg_states.Performed leg_states.Gone) c.is_error.ensures
     ∙ ap (λ o. cond (is_delete o && not (is_error_reply y)) leg_states.Performed leg_states.Gone) (sym (ap (λ f. f.op) l.is)) in
     subst (λ o. HasDone (at_row (finished (core_view d) n y) o) (core_view c.settle.new.self) (step_to c.after-state.result changes.Answered)) (sym (LegViews.there d n l.leg l.at))
-    (ap (λ p. step_to p changes.Answered) state, c.settle.ensures.view ∙ ap (settled_row (core_view d) n kinds.Gone y) (LegViews.there d n l.leg l.at))
-
-pub returns-clause-records : goal.returns-clause-records
-returns-clause-records c =
-    let was = records_of c.args.self.now in
-    c.settle.ensures.records ∙ sym (ap (λ p. records_after p c.args.leg.0 was) c.after-state.ensures ∙ SpoolNumbers.records_gone (is_delete c.args.facts.op && not c.is_error.result) c.args.leg.0 was)
+    (ap (λ p. step_to p changes.Answered) state, c.settle.ensures ∙ ap (settled_row (core_view d) n kinds.Gone y) (LegViews.there d n l.leg l.at))

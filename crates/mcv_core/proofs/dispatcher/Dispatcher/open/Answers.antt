@@ -37,10 +37,3 @@ returns-clause-view c =
     let since : option_map (λ m. m.0) c.since-since.result ≡ since_at (breaks_of (arc_value c.args.accepted)) 0 = c.since-since.ensures ∙ ap (λ v. since_at (breaks_of v) 0) routes in
     OpenedCores.view r c.args.records.now (calls_at c.new-calls.result) c.new-calls.ensures (legs o.queues) o.count are (option_map (λ m. m.0) c.since-since.result) since (in_flight o.queues) c.in_ok-opened.ensures.flights
     (marks c.in_ok-marks.marks) c.in_ok-marks.ensures.marks _ refl
-
-pub returns-clause-records : goal.returns-clause-records
-returns-clause-records c =
-    let deref : c.deref.result.now ≡ arc_value c.args.accepted = search rules in
-    let are : AreOpened (known_records (arc_value c.args.accepted).servers c.args.records.now) (known_numbers (arc_value c.args.accepted).servers c.args.records.now) (legs c.in_ok-opened.opened.queues) c.in_ok-opened.opened.count =
-    subst (λ (v : RoutesValue). AreOpened (known_records v.servers c.args.records.now) (known_numbers v.servers c.args.records.now) (legs c.in_ok-opened.opened.queues) c.in_ok-opened.opened.count) deref c.in_ok-opened.ensures.opened in
-    are.numbered

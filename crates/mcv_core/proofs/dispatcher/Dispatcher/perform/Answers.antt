@@ -1,15 +1,13 @@
-use Rattle.std.proofs.Common.{◌≡◌, ◌∙◌, ◌+◌, ◌-◌, refl, sym, ap, subst, false, arith, None}
+use Rattle.std.proofs.Common.{◌≡◌, ◌∙◌, ◌+◌, ◌-◌, refl, sym, ap, subst, false, arith}
 use Rattle.mcv_queues.specs.Legs.{is_flight, is_in_flight}
 use Rattle.mcv_queues.specs.Queues.{legs}
 use Rattle.mcv_queues.specs.declared.leg.State.TheVariants as states
 use Rattle.mcv_core.specs.CoreView.{HasDone, at_row, replayed_in, step_to}
-use Rattle.mcv_core.specs.Facts.{records_in}
 use Rattle.mcv_core.specs.View.{core_view}
 use Rattle.mcv_core.specs.declared.step.Change.TheVariants as changes
 use Rattle.mcv_core.specs.declared.step.LegState.TheVariants as leg_states
 use Rattle.mcv_core.proofs.Landings.{stated}
 use Rattle.mcv_core.proofs.LegViews
-use Rattle.mcv_core.proofs.SpoolNumbers
 use Rattle.mcv_core.proofs.dispatcher.Dispatcher.perform.Goals as goal
 
 pub gone-requires : goal.gone-requires
@@ -35,12 +33,9 @@ invariant_of-self c =
       table = d.table;
     }
 
-pub returns-clause-done : goal.returns-clause-done
-returns-clause-done c =
+pub returns : goal.returns
+returns c =
     let d = c.args.self.now in
     let l = stated (legs d.queues c.args.leg.0) states.InReplay c.requires in
     subst (λ o. HasDone (at_row (replayed_in (core_view d) c.args.leg.0 false) o) (LegViews.view_with d c.gone.new.self) (step_to leg_states.Performed changes.Performed)) (sym (LegViews.there d c.args.leg.0 l.leg l.at))
     (refl, LegViews.gone_view d c.args.leg.0 l.leg l.at c.gone.new.self c.gone.ensures.legs (ap is_flight l.is) c.gone.ensures.flights)
-
-pub returns-clause-records : goal.returns-clause-records
-returns-clause-records c = ap records_in c.gone.ensures.legs ∙ SpoolNumbers.records_put (legs c.args.self.now.queues) c.args.leg.0 None

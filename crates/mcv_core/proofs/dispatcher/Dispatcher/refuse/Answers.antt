@@ -23,11 +23,8 @@ settle-requires c =
       one = c.lost-reply.ensures.taken ∙ sym c.lost-reply.ensures.outcome;
     }
 
-pub returns-clause-done : goal.returns-clause-done
-returns-clause-done c =
+pub returns : goal.returns
+returns c =
     let d = c.args.self.now in
     let l = Landings.stated (legs d.queues c.args.leg.0) states.Held c.requires in
-    Landings.refused_done d c.args.leg.0 l.leg l.at l.is (part_value c.lost-reply.result.outcome) c.lost-reply.ensures.outcome (core_view c.settle.new.self) c.settle.ensures.view
-
-pub returns-clause-records : goal.returns-clause-records
-returns-clause-records c = c.settle.ensures.records
+    Landings.refused_done d c.args.leg.0 l.leg l.at l.is (part_value c.lost-reply.result.outcome) c.lost-reply.ensures.outcome (core_view c.settle.new.self) c.settle.ensures

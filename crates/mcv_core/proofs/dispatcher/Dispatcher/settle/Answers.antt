@@ -7,7 +7,6 @@ use Rattle.mcv_core.specs.Rows.{rows_of}
 use Rattle.mcv_core.specs.Soundness.{IsSound}
 use Rattle.mcv_core.specs.View.{core_view, since_of}
 use Rattle.mcv_core.proofs.SettledLegs
-use Rattle.mcv_core.proofs.SpoolNumbers
 use Rattle.mcv_core.proofs.dispatcher.Dispatcher.settle.Goals as goal
 
 pub leave-requires : goal.leave-requires
@@ -68,8 +67,8 @@ invariant_of-self c =
       table = d.table;
     }
 
-pub returns-clause-view : goal.returns-clause-view
-returns-clause-view c =
+pub returns : goal.returns
+returns c =
     let d = c.args.self.now in
     let n = c.args.leg.0 in
     let can = c.requires.can in
@@ -78,10 +77,5 @@ returns-clause-view c =
     let recorded = SettledLegs.code_recorded d n c.args.to can c.leave.new.queues c.args.owner.call c.args.owner.entry call_is entry_is c.args.outcome c.args.taken (calls_at c.hear-step.new.self) c.hear-step.new.queues
     c.hear-step.result c.hear-step.ensures.recorded in
     let removed = SettledLegs.code_removed d n c.args.to can c.args.owner.call call_is (calls_at c.hear-step.new.self) (calls_at c.remove_if.new.self) c.hear-step.result.ended c.remove_if.ensures in
-    ap (λ m. record (core_view d) { rows = rows_of (calls_at c.remove_if.new.self) (legs c.hear-step.new.queues) (since_of d) d.next_call m; flights = in_flight c.hear-step.new.queues }) c.number_after-self.ensures
-    ∙ SettledLegs.view_settled d n c.args.to can c.leave.new.queues c.leave.ensures.legs c.args.outcome c.args.taken c.requires.one (calls_at c.hear-step.new.self) c.hear-step.new.queues c.hear-step.result recorded c.remove_if.new.self removed c.leave.ensures.flights c.hear-step.ensures.flights
-
-pub returns-clause-records : goal.returns-clause-records
-returns-clause-records c =
-    let can = c.requires.can in
-    c.hear-step.ensures.records ∙ ap records_in c.leave.ensures.legs ∙ SpoolNumbers.records_settled c.args.to (legs c.args.self.now.queues) c.args.leg.0 can.leg can.at
+    ap (λ m. record (core_view d) { rows = rows_of (calls_at c.remove_if.new.self) (legs c.hear-step.new.queues) (since_of d) d.next_call m; records = records_in (legs c.hear-step.new.queues); flights = in_flight c.hear-step.new.queues }) c.number_after-self.ensures
+    ∙ SettledLegs.view_settled d n c.args.to can c.leave.new.queues c.leave.ensures.legs c.args.outcome c.args.taken c.requires.one (calls_at c.hear-step.new.self) c.hear-step.new.queues c.hear-step.result recorded c.remove_if.new.self removed c.hear-step.ensures.records c.leave.ensures.flights c.hear-step.ensures.flights

@@ -22,7 +22,7 @@ returns-clause-view c =
     let d = c.args.self.now in
     let d2 = c.make_room.new.self in
     BegunCalls.has_begun_as d d2 c.args.asked c.args.state c.args.launches.items c.in_ok-call.call (core_view c.add.new.self) d2.next_call d2.since c.make_room.ensures.view c.in_ok-call.ensures c.add.ensures.view
-    (BegunCalls.laid_start d c.args.asked c.args.state c.args.launches.items c.requires.can) c.requires.can.fits
+    (BegunCalls.planned_start d c.args.asked c.args.state c.args.launches.items c.requires.can) c.requires.can.fits
 
 pub returns-clause-moves : goal.returns-clause-moves
 returns-clause-moves c =

@@ -28,15 +28,12 @@ settle-requires c =
       one = c.not_found-reply.ensures.taken ∙ sym c.not_found-reply.ensures.outcome;
     }
 
-pub returns-clause-done : goal.returns-clause-done
-returns-clause-done c =
+pub returns : goal.returns
+returns c =
     let d = c.args.self.now in
     let l = Landings.stated (legs d.queues c.args.leg.0) states.Held c.requires in
-    subst (λ o. HasDone (at_row (stores (core_view d) c.args.leg.0) o) (core_view c.settle.new.self) (step_to leg_states.Spooled changes.Spooled)) (sym (LegViews.there d c.args.leg.0 l.leg l.at)) (
+    subst (λ o. HasDone (at_row (stores (core_view d) c.args.leg.0 c.args.seq) o) (core_view c.settle.new.self) (step_to leg_states.Spooled changes.Spooled)) (sym (LegViews.there d c.args.leg.0 l.leg l.at)) (
       refl,
-      c.settle.ensures.view ∙ ap (settled_row (core_view d) c.args.leg.0 (kinds.InSpool c.args.seq) (part_value c.not_found-reply.result.outcome)) (LegViews.there d c.args.leg.0 l.leg l.at)
+      c.settle.ensures ∙ ap (settled_row (core_view d) c.args.leg.0 (kinds.InSpool c.args.seq) (part_value c.not_found-reply.result.outcome)) (LegViews.there d c.args.leg.0 l.leg l.at)
           ∙ ap (λ x. settled_row (core_view d) c.args.leg.0 (kinds.InSpool c.args.seq) x (Some (row_by state_of l.leg))) c.not_found-reply.ensures.outcome,
     )
-
-pub returns-clause-records : goal.returns-clause-records
-returns-clause-records c = c.settle.ensures.records

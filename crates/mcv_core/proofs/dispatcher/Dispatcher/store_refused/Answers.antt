@@ -3,7 +3,6 @@ use Rattle.mcv_queues.specs.Legs.{is_flight, is_in_flight}
 use Rattle.mcv_queues.specs.Queues.{legs}
 use Rattle.mcv_queues.specs.declared.leg.State.TheVariants as states
 use Rattle.mcv_core.specs.CoreView.{HasDone, at_row, step_to, stores}
-use Rattle.mcv_core.specs.Facts.{records_in}
 use Rattle.mcv_core.specs.Rows.{state_of}
 use Rattle.mcv_core.specs.View.{core_view}
 use Rattle.mcv_core.specs.declared.step.Change.TheVariants as changes
@@ -13,7 +12,6 @@ use Rattle.mcv_core.specs.Soundness.{spooled_in}
 use Rattle.mcv_core.proofs.Landings
 use Rattle.mcv_core.proofs.Landings.{stated}
 use Rattle.mcv_core.proofs.LegViews
-use Rattle.mcv_core.proofs.SpoolNumbers
 use Rattle.mcv_core.proofs.dispatcher.Dispatcher.store_refused.Goals as goal
 
 pub spooled-requires : goal.spooled-requires
@@ -38,15 +36,9 @@ invariant_of-self c =
       table = d.table;
     }
 
-pub returns-clause-done : goal.returns-clause-done
-returns-clause-done c =
+pub returns : goal.returns
+returns c =
     let d = c.args.self.now in
     let l = stated (legs d.queues c.args.leg.0) states.Refused c.requires in
-    subst (λ o. HasDone (at_row (stores (core_view d) c.args.leg.0) o) (LegViews.view_with d c.spooled.new.self) (step_to leg_states.Spooled changes.Spooled)) (sym (LegViews.there d c.args.leg.0 l.leg l.at))
+    subst (λ o. HasDone (at_row (stores (core_view d) c.args.leg.0 c.args.seq) o) (LegViews.view_with d c.spooled.new.self) (step_to leg_states.Spooled changes.Spooled)) (sym (LegViews.there d c.args.leg.0 l.leg l.at))
     (refl, Landings.stored_view d c.args.leg.0 l.leg l.at l.is c.args.seq c.spooled.new.self c.spooled.ensures.legs c.spooled.ensures.flights)
-
-pub returns-clause-records : goal.returns-clause-records
-returns-clause-records c =
-    let d = c.args.self.now in
-    let l = stated (legs d.queues c.args.leg.0) states.Refused c.requires in
-    ap records_in c.spooled.ensures.legs ∙ SpoolNumbers.records_stored (legs d.queues) c.args.leg.0 c.args.seq l.leg l.at

@@ -1,14 +1,11 @@
-use Rattle.std.proofs.Common.{◌≡◌, ◌∙◌, ap, rules, subst, sym, true, Option, Some, None}
+use Rattle.std.proofs.Common.{◌≡◌, ◌∙◌, ap, refl, rules, subst, sym, true, false, Option, None}
 use Rattle.std.specs.Arc.{arc_value}
 use Rattle.std.specs.Prelude.{IfNone, is_some}
 use Rattle.mcv_queues.specs.Queues.{legs, room, servers}
-use Rattle.mcv_world.specs.Moves.{Taken as WasTaken}
 use Rattle.mcv_core.specs.declared.take.Taking.{Taking}
 use Rattle.mcv_core.specs.Calls.{calls_at}
 use Rattle.mcv_core.specs.Soundness.{IsSound}
-use Rattle.mcv_core.specs.View.{core_view, since_of}
-use Rattle.mcv_core.proofs.HandedParts
-use Rattle.mcv_core.proofs.DeletesStayKept
+use Rattle.mcv_core.specs.View.{since_of}
 use Rattle.mcv_core.proofs.TakenReplies
 use Rattle.mcv_core.proofs.dispatcher.Dispatcher.take.Goals as goal
 
@@ -46,43 +43,20 @@ invariant_of-self-2 c =
       table = d.table;
     }
 
-pub returns-clause-moves : goal.returns-clause-moves
-returns-clause-moves c =
+pub returns : goal.returns
+returns c =
     let d = c.args.self.now in
     let k = c.args.call.0 in
     let runs : is_some (calls_at d.calls k) ≡ true = sym c.take.ensures.runs ∙ ap is_some c.in-Some.is in
     let found = TakenReplies.found_of (calls_at d.calls) k runs in
-    HandedParts.if_some_by c.in-Some.taking.part (λ p some. TakenReplies.moves_then d k c.take.new.self c.in-Some.taking c.in-Some.ensures.taken found c.remove_if.new.self c.remove_if.ensures p some)
+    TakenReplies.taken_event d c.args.call c.take.new.self c.in-Some.taking c.in-Some.ensures.taken found c.remove_if.new.self c.remove_if.ensures c.in-Some.taking.part refl
 
-pub returns-clause-reply : goal.returns-clause-reply
-returns-clause-reply c =
+-- no such call runs
+pub returns-in_default : goal.returns-in_default
+returns-in_default c =
     let d = c.args.self.now in
     let k = c.args.call.0 in
-    let runs : is_some (calls_at d.calls k) ≡ true = sym c.take.ensures.runs ∙ ap is_some c.in-Some.is in
-    let found = TakenReplies.found_of (calls_at d.calls) k runs in
-    HandedParts.if_some_by c.in-Some.taking.part (λ p some. TakenReplies.reply_then d k c.take.new.self c.in-Some.taking c.in-Some.ensures.taken found c.remove_if.new.self c.remove_if.ensures p some)
-
-pub returns-clause-none : goal.returns-clause-none
-returns-clause-none c =
-    let d = c.args.self.now in
-    let k = c.args.call.0 in
-    let runs : is_some (calls_at d.calls k) ≡ true = sym c.take.ensures.runs ∙ ap is_some c.in-Some.is in
-    let found = TakenReplies.found_of (calls_at d.calls) k runs in
-    HandedParts.if_none_by c.in-Some.taking.part (λ none. TakenReplies.none_then d k c.take.new.self c.in-Some.taking c.in-Some.ensures.taken found c.remove_if.new.self c.remove_if.ensures none)
-
-pub returns-clause-view : goal.returns-clause-view
-returns-clause-view c =
-    let d = c.args.self.now in
-    let k = c.args.call.0 in
-    let runs : is_some (calls_at d.calls k) ≡ true = sym c.take.ensures.runs ∙ ap is_some c.in-Some.is in
-    let found = TakenReplies.found_of (calls_at d.calls) k runs in
-    HandedParts.if_some_by c.in-Some.taking.part (λ p some. TakenReplies.view_then d k c.take.new.self c.in-Some.taking c.in-Some.ensures.taken found c.remove_if.new.self c.remove_if.ensures p some)
-
-pub returns-clause-keeps : goal.returns-clause-keeps
-returns-clause-keeps c =
-    let d = c.args.self.now in
-    let k = c.args.call.0 in
-    let runs : is_some (calls_at d.calls k) ≡ true = sym c.take.ensures.runs ∙ ap is_some c.in-Some.is in
-    let found = TakenReplies.found_of (calls_at d.calls) k runs in
-    HandedParts.if_some_by c.in-Some.taking.part
-    (λ p some. DeletesStayKept.events_keep_deletes (core_view d) _ (Some (WasTaken k)) (TakenReplies.moves_then d k c.take.new.self c.in-Some.taking c.in-Some.ensures.taken found c.remove_if.new.self c.remove_if.ensures p some))
+    let none : c.take.result ≡ None = search rules in
+    let same : calls_at c.take.new.self ≡ calls_at d.calls = subst (λ (o : Option Taking). IfNone o (calls_at c.take.new.self ≡ calls_at d.calls)) none c.take.ensures.none in
+    let idle : is_some (calls_at d.calls k) ≡ false = sym c.take.ensures.runs ∙ ap is_some none in
+    TakenReplies.untaken_event d c.args.call c.take.new.self same idle

@@ -3,14 +3,12 @@ use Rattle.mcv_queues.specs.Legs.{is_flight, is_in_flight}
 use Rattle.mcv_queues.specs.Queues.{legs}
 use Rattle.mcv_queues.specs.declared.leg.State.TheVariants as states
 use Rattle.mcv_core.specs.CoreView.{HasDone, at_row, replayed_in, step_to}
-use Rattle.mcv_core.specs.Facts.{records_in}
 use Rattle.mcv_core.specs.Rows.{state_of}
 use Rattle.mcv_core.specs.View.{core_view}
 use Rattle.mcv_core.specs.declared.step.Change.TheVariants as changes
 use Rattle.mcv_core.specs.declared.step.LegState.TheVariants as leg_states
 use Rattle.mcv_core.proofs.Landings.{stated}
 use Rattle.mcv_core.proofs.LegViews
-use Rattle.mcv_core.proofs.SpoolNumbers
 use Rattle.mcv_core.proofs.dispatcher.Dispatcher.wait_again.Goals as goal
 
 pub replay_failed-requires : goal.replay_failed-requires
@@ -27,12 +25,9 @@ invariant_of-self c =
       table = d.table;
     }
 
-pub returns-clause-done : goal.returns-clause-done
-returns-clause-done c =
+pub returns : goal.returns
+returns c =
     let d = c.args.self.now in
     let l = stated (legs d.queues c.args.leg.0) states.InReplay c.requires in
     subst (λ o. HasDone (at_row (replayed_in (core_view d) c.args.leg.0 true) o) (LegViews.view_with d c.replay_failed.new.self) (step_to leg_states.Spooled changes.Nothing)) (sym (LegViews.there d c.args.leg.0 l.leg l.at))
     (refl, LegViews.waits_view d c.args.leg.0 l.leg l.at (ap state_of l.is) c.replay_failed.new.self c.replay_failed.ensures.legs (ap is_flight l.is) c.replay_failed.ensures.flights)
-
-pub returns-clause-records : goal.returns-clause-records
-returns-clause-records c = ap records_in c.replay_failed.ensures.legs ∙ SpoolNumbers.records_kept (legs c.args.self.now.queues) c.args.leg.0 states.InSpool

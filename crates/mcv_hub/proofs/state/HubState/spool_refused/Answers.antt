@@ -1,38 +1,34 @@
-use Rattle.std.proofs.Common.{◌∙◌, ap, refl, vec_len, vec_capacity}
-use Rattle.std.proofs.lemmas.Result.{err_from_is_err_and}
-use Rattle.mcv_base.specs.Reply.{fixed_value, not_found}
+use Rattle.std.proofs.Common.{◌≡◌, ◌∙◌, ◌+◌, ◌≤◌, ap, arith, refl, subst, sym, vec_len, vec_capacity}
+use Rattle.mcv_base.specs.Reply.{fixed_value}
 use Rattle.mcv_base.specs.declared.reply.FixedReply.TheVariants as replies
 use Rattle.mcv_base.specs.declared.reply.Part.TheVariants as parts
+use Rattle.mcv_core.specs.Events.{IsEvent, IsRefusedLeg}
 use Rattle.mcv_core.specs.View.{core_view}
-use Rattle.mcv_hub.proofs.Histories.{leg_event_err, leg_event_ok, leg_holds, same_holds}
-use Rattle.mcv_hub.specs.History.{with_entry}
+use Rattle.mcv_hub.specs.History.{answer_change, entries_in, leg_entry, written}
+use Rattle.mcv_hub.specs.RemainingEntries.{may_write}
+use Rattle.mcv_hub.proofs.EventsMayWrite.{refusal_goes}
+use Rattle.mcv_hub.proofs.Histories.{goes_holds, hub_event, leg_begins, leg_longer, leg_takes, leg_writes, write_fits}
 use Rattle.mcv_hub.proofs.state.HubState.spool_refused.Goals as goal
 
+pub write-requires : goal.write-requires
+write-requires g c =
+    let h : IsEvent (IsRefusedLeg (core_view c.self.inside.core.dispatcher) c.args.leg c.spool_refused-answer.result) (core_view c.spool_refused-answer.new.self) = subst (λ d. IsEvent (IsRefusedLeg (core_view d) c.args.leg c.spool_refused-answer.result) (core_view c.spool_refused-answer.new.self)) c.events.ensures.value c.spool_refused-answer.ensures in
+    let goes = refusal_goes c.self.inside.core.dispatcher (core_view c.spool_refused-answer.new.self) c.args.leg c.spool_refused-answer.result h.move h.event in
+    let entry : c.leg_entry.result ≡ leg_entry c.args.leg (parts.Fixed replies.Lost) (answer_change c.spool_refused-answer.result) = c.leg_entry.ensures ∙ ap (leg_entry c.args.leg (parts.Fixed replies.Lost)) c.change_of.ensures in
+    let longer : entries_in c.leg_entry.result ≡ written h.move = let k = leg_longer c.args.leg (parts.Fixed replies.Lost) (fixed_value replies.Lost) c.spool_refused-answer.result h.move h.event.move 0 (entries_in c.leg_entry.result) c.leg_entry.result entry (omega arith) in omega (arith, k) in
+    subst (λ n. vec_len c.self.inside.history + n ≤ vec_capacity c.self.inside.history) (sym longer) (write_fits (vec_len c.self.inside.history) (vec_capacity c.self.inside.history) c.self.inside.places (may_write (core_view c.self.inside.core.dispatcher)) (may_write (core_view c.spool_refused-answer.new.self)) (written h.move) c.self.invariant.1 goes.spent)
+
 pub invariant_of-self : goal.invariant_of-self
-invariant_of-self g c = same_holds (core_view c.self.inside.core.dispatcher) (core_view c.spool_refused.new.core.dispatcher) c.self.inside.history.items c.self.inside.chapter c.self.inside.begun.total c.self.inside.taken.total c.self.inside.begun_before c.self.inside.taken_before (vec_len c.self.inside.history)
-    (vec_capacity c.self.inside.history) c.self.inside.places c.self.inside.breaks c.self.invariant c.in_err-step.ensures.err
+invariant_of-self g c =
+    let h : IsEvent (IsRefusedLeg (core_view c.self.inside.core.dispatcher) c.args.leg c.spool_refused-answer.result) (core_view c.spool_refused-answer.new.self) = subst (λ d. IsEvent (IsRefusedLeg (core_view d) c.args.leg c.spool_refused-answer.result) (core_view c.spool_refused-answer.new.self)) c.events.ensures.value c.spool_refused-answer.ensures in
+    let goes = refusal_goes c.self.inside.core.dispatcher (core_view c.spool_refused-answer.new.self) c.args.leg c.spool_refused-answer.result h.move h.event in
+    let entry : c.leg_entry.result ≡ leg_entry c.args.leg (parts.Fixed replies.Lost) (answer_change c.spool_refused-answer.result) = c.leg_entry.ensures ∙ ap (leg_entry c.args.leg (parts.Fixed replies.Lost)) c.change_of.ensures in
+    goes_holds (core_view c.self.inside.core.dispatcher) (core_view c.spool_refused-answer.new.self) c.self.inside.history.items c.self.inside.chapter c.self.inside.begun.total c.self.inside.taken.total c.self.inside.begun_before c.self.inside.taken_before (vec_len c.self.inside.history) (vec_capacity c.self.inside.history) c.self.inside.places c.self.inside.breaks c.self.invariant h.move goes c.write.new.history.items c.self.inside.begun.total c.self.inside.taken.total (vec_len c.write.new.history) (vec_capacity c.write.new.history) (leg_writes c.args.leg (parts.Fixed replies.Lost) (fixed_value replies.Lost) c.spool_refused-answer.result h.move h.event.move (core_view c.self.inside.core.dispatcher).routes c.self.inside.history.items c.write.new.history.items c.leg_entry.result refl entry c.write.ensures.items) (leg_begins c.args.leg (parts.Fixed replies.Lost) (fixed_value replies.Lost) c.spool_refused-answer.result h.move h.event.move _) (leg_takes c.args.leg (parts.Fixed replies.Lost) (fixed_value replies.Lost) c.spool_refused-answer.result h.move h.event.move _)
+    (leg_longer c.args.leg (parts.Fixed replies.Lost) (fixed_value replies.Lost) c.spool_refused-answer.result h.move h.event.move _ _ c.leg_entry.result entry c.write.ensures.len) c.write.ensures.capacity
 
-pub returns-in_err-step-clause-event : goal.returns-in_err-step-clause-event
-returns-in_err-step-clause-event g c =
-    let p = err_from_is_err_and c.from_residual.result c.from_residual.ensures.1 in
-    rw (← c.self.view_is)
-    (rw (p.1, p.2)
-    (leg_event_err _ _ _ _ _ c.in_err-step.field-0.0 c.in_err-step.ensures.effect (record { core = c.in_err-step.ensures.err; history = refl; books = record { begun = refl; taken = refl; same = record { chapter = refl; begun_before = refl; taken_before = refl } } })))
-
-pub invariant_of-self-2 : goal.invariant_of-self-2
-invariant_of-self-2 g c =
-    leg_holds (core_view c.self.inside.core.dispatcher) (core_view c.spool_refused.new.core.dispatcher) c.self.inside.history.items c.self.inside.chapter c.self.inside.begun.total c.self.inside.taken.total c.self.inside.begun_before c.self.inside.taken_before (vec_len c.self.inside.history)
-    (vec_capacity c.self.inside.history) c.self.inside.places c.self.inside.breaks c.self.invariant c.args.leg (parts.Fixed replies.Lost) (fixed_value replies.Lost) c.in_ok-step.step.change c.leg_entry.result _ _ _ refl
-    c.in_ok-step.ensures.does c.spool_refused.ensures.chapter c.in_ok-step.ensures.may_write c.leg_entry.ensures c.write.ensures.items c.write.ensures.len c.write.ensures.capacity
-
-pub returns-clause-event : goal.returns-clause-event
-returns-clause-event g c =
-    rw (← c.self.view_is)
-    (leg_event_ok _ _ _ _ _ c.in_ok-step.step c.in_ok-step.ensures.effect c.in_ok-step.ensures.does (record { reply = (parts.Fixed replies.Lost); is = refl; entry = c.write.ensures.items ∙ ap (with_entry _) c.leg_entry.ensures })
-    (record { begun = refl; taken = refl; same = record { chapter = refl; begun_before = refl; taken_before = refl } }))
-
-pub returns-in_err-step-clause-records : goal.returns-in_err-step-clause-records
-returns-in_err-step-clause-records g c = rw (← c.self.view_is) c.spool_refused.ensures.records
-
-pub returns-clause-records : goal.returns-clause-records
-returns-clause-records g c = rw (← c.self.view_is) c.spool_refused.ensures.records
+pub returns : goal.returns
+returns g c =
+    let h : IsEvent (IsRefusedLeg (core_view c.self.inside.core.dispatcher) c.args.leg c.spool_refused-answer.result) (core_view c.spool_refused-answer.new.self) = subst (λ d. IsEvent (IsRefusedLeg (core_view d) c.args.leg c.spool_refused-answer.result) (core_view c.spool_refused-answer.new.self)) c.events.ensures.value c.spool_refused-answer.ensures in
+    let goes = refusal_goes c.self.inside.core.dispatcher (core_view c.spool_refused-answer.new.self) c.args.leg c.spool_refused-answer.result h.move h.event in
+    let entry : c.leg_entry.result ≡ leg_entry c.args.leg (parts.Fixed replies.Lost) (answer_change c.spool_refused-answer.result) = c.leg_entry.ensures ∙ ap (leg_entry c.args.leg (parts.Fixed replies.Lost)) c.change_of.ensures in
+    rw (← c.self.view_is) (hub_event _ _ _ h.move h.event goes.leads (leg_writes c.args.leg (parts.Fixed replies.Lost) (fixed_value replies.Lost) c.spool_refused-answer.result h.move h.event.move (core_view c.self.inside.core.dispatcher).routes c.self.inside.history.items c.write.new.history.items c.leg_entry.result refl entry c.write.ensures.items) (leg_begins c.args.leg (parts.Fixed replies.Lost) (fixed_value replies.Lost) c.spool_refused-answer.result h.move h.event.move _) (leg_takes c.args.leg (parts.Fixed replies.Lost) (fixed_value replies.Lost) c.spool_refused-answer.result h.move h.event.move _) (record { chapter = refl; begun_before = refl; taken_before = refl }))

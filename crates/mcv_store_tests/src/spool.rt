@@ -1,0 +1,6 @@
+//! Records in a file.
+
+mod disk;
+mod play;
+mod rows;
+mod stops;

@@ -1,5 +1,0 @@
-//! Records in a file.
-
-mod disk;
-mod play;
-mod runs;

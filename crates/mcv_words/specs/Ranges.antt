@@ -1,0 +1,18 @@
+-- The ranges of the numbers that `check` and `run` take (own).
+use Rattle.std.specs.Prelude.{ℕ}
+
+-- the most sessions of a run, of which there is one at least
+abbrev pub session_limit : ℕ
+session_limit = 1000000000
+
+-- the most proxies of a run, of which there is one at least
+abbrev pub proxy_limit : ℕ
+proxy_limit = 64
+
+-- the most milliseconds of a time limit, an hour; the least is 1
+abbrev pub timeout_limit : ℕ
+timeout_limit = 3600000
+
+-- the most seconds of a window; the least are 0
+abbrev pub window_limit : ℕ
+window_limit = 4294967295

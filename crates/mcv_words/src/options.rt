@@ -1,0 +1,152 @@
+//! What `check` and `run` are asked for. Each number has a type of its own, which keeps it in its range.
+
+ghost use Rattle.std.specs.Prelude.{◌≡◌, ◌↔◌, ◌≤◌, ℕ, IfSome, IsSome};
+ghost use Rattle.mcv_words.specs.Ranges.{proxy_limit, session_limit, timeout_limit, window_limit};
+
+/// A number that an option takes.
+pub trait InRange: Drop + Sized {
+    ghost least: { ℕ };
+
+    ghost most: { ℕ };
+
+    ghost value: { Self → ℕ };
+
+    /// This number; None where it is out of range.
+    fn new(number: u64) -> Option<Self>
+        ensures some { IsSome result ↔ ((least ≤ number) × (number ≤ most)) }
+        ensures value { IfSome result (λ made. value made ≡ number) };
+}
+
+/// After how many sessions a run ends, from 1 to 1,000,000,000.
+#[derive(Clone, Copy, Debug, PartialEq, Eq)]
+pub struct Sessions {
+    pub count: u64,
+    pub ghost in_range: { (1 ≤ count) × (count ≤ session_limit) },
+}
+
+impl InRange for Sessions {
+    ghost least = { 1 };
+
+    ghost most = { session_limit };
+
+    ghost value = { λ sessions. sessions.count };
+
+    fn new(number: u64) -> Option<Sessions> {
+        if number < 1 || number > 1_000_000_000 {
+            return None;
+        }
+        Some(Sessions { count: number })
+    }
+}
+
+/// How many proxies run side by side, from 1 to 64.
+#[derive(Clone, Copy, Debug, PartialEq, Eq)]
+pub struct Proxies {
+    pub count: u64,
+    pub ghost in_range: { (1 ≤ count) × (count ≤ proxy_limit) },
+}
+
+impl InRange for Proxies {
+    ghost least = { 1 };
+
+    ghost most = { proxy_limit };
+
+    ghost value = { λ proxies. proxies.count };
+
+    fn new(number: u64) -> Option<Proxies> {
+        if number < 1 || number > 64 {
+            return None;
+        }
+        Some(Proxies { count: number })
+    }
+}
+
+/// How far apart, in seconds, a delete and a get are looked at, from 0 to 4,294,967,295; 0: in one era alone.
+#[derive(Clone, Copy, Debug, PartialEq, Eq)]
+pub struct Window {
+    pub seconds: u64,
+    pub ghost in_range: { seconds ≤ window_limit },
+}
+
+impl InRange for Window {
+    ghost least = { 0 };
+
+    ghost most = { window_limit };
+
+    ghost value = { λ window. window.seconds };
+
+    fn new(number: u64) -> Option<Window> {
+        if number > 4_294_967_295 {
+            return None;
+        }
+        Some(Window { seconds: number })
+    }
+}
+
+/// How long a server may take for a reply, a connection or a probe, from 1 ms to an hour.
+#[derive(Clone, Copy, Debug, PartialEq, Eq)]
+pub struct ServerTimeout {
+    pub millis: u64,
+    pub ghost in_range: { (1 ≤ millis) × (millis ≤ timeout_limit) },
+}
+
+impl InRange for ServerTimeout {
+    ghost least = { 1 };
+
+    ghost most = { timeout_limit };
+
+    ghost value = { λ timeout. timeout.millis };
+
+    fn new(number: u64) -> Option<ServerTimeout> {
+        if number < 1 || number > 3_600_000 {
+            return None;
+        }
+        Some(ServerTimeout { millis: number })
+    }
+}
+
+/// How long a client may send nothing, or take nothing of its answer, from 1 ms to an hour.
+#[derive(Clone, Copy, Debug, PartialEq, Eq)]
+pub struct ClientTimeout {
+    pub millis: u64,
+    pub ghost in_range: { (1 ≤ millis) × (millis ≤ timeout_limit) },
+}
+
+impl InRange for ClientTimeout {
+    ghost least = { 1 };
+
+    ghost most = { timeout_limit };
+
+    ghost value = { λ timeout. timeout.millis };
+
+    fn new(number: u64) -> Option<ClientTimeout> {
+        if number < 1 || number > 3_600_000 {
+            return None;
+        }
+        Some(ClientTimeout { millis: number })
+    }
+}
+
+/// The numbers of `run`'s options.
+#[derive(Clone, Copy, Debug, PartialEq, Eq)]
+pub struct Settings {
+    /// None where the run doesn't end by itself.
+    pub sessions: Option<Sessions>,
+    pub proxies: Proxies,
+    /// Within what the configuration is judged.
+    pub window: Window,
+    /// None where a server may take any time.
+    pub server_timeout: Option<ServerTimeout>,
+    /// None where a client may take any time.
+    pub client_timeout: Option<ClientTimeout>,
+}
+
+/// What `run` is asked for.
+#[derive(Clone, Copy, Debug, PartialEq, Eq)]
+pub struct RunOptions<'a> {
+    /// The address at which clients connect.
+    pub listen: &'a str,
+    /// The name of the spool's file.
+    pub spool: &'a str,
+    pub settings: Settings,
+}
