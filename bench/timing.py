@@ -42,10 +42,21 @@ def best(*calls, runs=5):
     return [min(times) for times in zip(*rounds)]
 
 
-def running(words, given_text, status=0):
-    """A call that runs the program on words and a text, and wants the exit status. The program is built where it isn't yet."""
+def build_program():
+    """Builds the program where it isn't built yet."""
     if not os.access(PROGRAM, os.X_OK):
         subprocess.run([os.path.join(TOP, "mcv"), "--help"], stdout=subprocess.DEVNULL, check=True)
+
+
+def printed(words, given_text):
+    """What the program prints on words and a text."""
+    build_program()
+    return subprocess.run([PROGRAM] + words, input=given_text, capture_output=True, text=True).stdout
+
+
+def running(words, given_text, status=0):
+    """A call that runs the program on words and a text, and wants the exit status."""
+    build_program()
     given = tempfile.TemporaryFile()
     given.write(given_text.encode())
 

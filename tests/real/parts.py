@@ -160,6 +160,11 @@ class Mcv:
         with open(self.errors, "rb") as file:
             return file.read()
 
+    def resident(self):
+        """How many bytes of memory the program has."""
+        with open("/proc/%d/status" % self.process.pid) as status:
+            return next(int(line.split()[1]) * 1024 for line in status if line.startswith("VmRSS:"))
+
     def kill(self):
         self.process.kill()
         self.process.wait(LIMIT)

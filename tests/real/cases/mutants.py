@@ -1,4 +1,5 @@
-"""Requests of clients and replies of servers that were changed at random: the proxy goes on, and answers what comes later."""
+"""Requests of clients and replies of servers that were changed at random: the proxy goes on, answers what comes later, and keeps
+no memory."""
 import contextlib
 import random
 import threading
@@ -10,6 +11,8 @@ from mutations import in_pieces, mutant
 from parts import Client, Failed, answer, case, expect, one_pool, shown, stored, value_answer
 
 STREAMS, REPLIES = 2000, 2000
+# Bytes of memory that the program may have more in the end than behind the first hundred. Its history keeps some 450 for a call.
+FIRST, MORE = 100, 10_000_000
 # Seconds between two pieces of a stream.
 PAUSE = 0.001
 FAILED = b"SERVER_ERROR destination failed\r\n"
@@ -37,6 +40,12 @@ REQUESTS = [
     b"version\r\n",
     b"gat 0 a#####\r\n",
 ]
+
+
+def expect_memory(mcv, before, seed):
+    now = mcv.resident()
+    if now > before + MORE:
+        raise Failed("%d bytes of memory, %d behind the first %d (seed %d)" % (now, before, FIRST, seed))
 
 
 def answer_in_pieces(text, pieces):
@@ -71,6 +80,8 @@ def two_thousand_mutants_of_requests_are_answered_alike_however_cut(machine):
     for text in (first, second):
         expect(answer(text, stored(b"later", b"1")), b"STORED\r\n")
     for number in range(STREAMS):
+        if number == FIRST:
+            before = [mcv.resident() for mcv in proxies]
         template = mutant(chosen, b"".join(chosen.choices(REQUESTS, k=chosen.randrange(1, 6))))
         # (an item whose time ends between the two is another answer, but not twice)
         for attempt in range(3):
@@ -83,6 +94,8 @@ def two_thousand_mutants_of_requests_are_answered_alike_however_cut(machine):
         for text in (first, second):
             expect(answer(text, b"get later\r\n"), value_answer(b"later", b"1"), "behind %s (seed %d)" % (shown(sent), seed))
     expect([mcv.process.poll() for mcv in proxies], [None, None], "the programs' statuses")
+    for mcv, was in zip(proxies, before):
+        expect_memory(mcv, was, seed)
 
 
 class Mangler(Listening):
@@ -154,8 +167,10 @@ def two_thousand_mutants_of_replies_are_taken_as_the_page_says(machine):
     route = {"type": "PrefixSelectorRoute", "policies": {"bad": "PoolRoute|A"}, "wildcard": "PoolRoute|B"}
     mcv = machine.mcv({"pools": {"A": {"servers": [mangler.text]}, "B": {"servers": machine.servers(1)}}, "route": route})
     expect(answer(mcv.address, stored(b"later", b"1")), b"STORED\r\n")
-    number, taken = 0, 0
+    number, taken, before = 0, 0, None
     while mangler.count < REPLIES:
+        if mangler.count >= FIRST and before is None:
+            before = mcv.resident()
         name = chosen.choice([b"get", b"get", b"gets", b"set", b"add", b"cas", b"touch", b"incr", b"decr", b"delete"])
         key = b"bad%d" % number
         found = answer(mcv.address, asked(name, key))
@@ -166,5 +181,6 @@ def two_thousand_mutants_of_replies_are_taken_as_the_page_says(machine):
         expect(answer(mcv.address, b"get later\r\n"), value_answer(b"later", b"1"), "behind %r (seed %d)" % (mangler.replies.get(key), seed))
         number += 1
     expect(mcv.process.poll(), None, "the program's status")
+    expect_memory(mcv, before, seed)
     if not taken:
         raise Failed("no reply was taken")
