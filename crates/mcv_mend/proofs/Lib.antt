@@ -1,0 +1,4 @@
+pub mod WholeInput
+pub mod Insertions
+pub mod SameAliases
+pub mod ReadAliases

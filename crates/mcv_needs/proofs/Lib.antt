@@ -1,0 +1,3 @@
+pub mod WantedBlocks
+pub mod ClassNeeds
+pub mod EraSets
