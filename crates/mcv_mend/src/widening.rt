@@ -132,22 +132,40 @@ fn push_with_legs<'t>(
     if need.legs.is_empty() {
         return source.push_place(out, place);
     }
-    match (place, last_of_all(place)) {
-        (Place::Value(value), Some(last)) => {
-            let mut text = Vec::new(*out.allocator());
-            push_legs(source, need, &mut text)?;
-            let end = last.span().end;
-            let span = Span { start: end, end };
-            let mut edits = Vec::new(*out.allocator());
-            edits.push(Edit { span, text })?;
-            push_edited(out, source.text, value.span(), edits)
-        }
-        _ => {
-            out.extend_from_slice(b"{\"type\": \"AllSyncRoute\", \"children\": [")?;
-            source.push_place(out, place)?;
-            push_legs(source, need, out)?;
-            out.extend_from_slice(b"]}")?;
-            Ok(())
+    if let Place::Value(value) = place {
+        if let Some(last) = last_of_all(place) {
+            return push_at_end(source, value, last.span().end, need, out);
         }
     }
+    push_beside(source, place, need, out)
+}
+
+/// Adds the text of a route, and of the legs as further children of it: its list of children ends behind this place.
+fn push_at_end<'t>(
+    source: Source<'t>,
+    route: &'t Located,
+    end: usize,
+    need: &Need,
+    out: &mut Vec<u8>,
+) -> Result<(), MendFault> {
+    let mut text = Vec::new(*out.allocator());
+    push_legs(source, need, &mut text)?;
+    let span = Span { start: end, end };
+    let mut edits = Vec::new(*out.allocator());
+    edits.push(Edit { span, text })?;
+    push_edited(out, source.text, route.span(), edits)
+}
+
+/// Adds the text of a new AllSyncRoute over a route and the legs.
+fn push_beside<'t>(
+    source: Source<'t>,
+    place: Place<'t>,
+    need: &Need,
+    out: &mut Vec<u8>,
+) -> Result<(), MendFault> {
+    out.extend_from_slice(b"{\"type\": \"AllSyncRoute\", \"children\": [")?;
+    source.push_place(out, place)?;
+    push_legs(source, need, out)?;
+    out.extend_from_slice(b"]}")?;
+    Ok(())
 }

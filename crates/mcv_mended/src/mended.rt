@@ -117,7 +117,10 @@ fn is_same_class(one: &RouteClass, other: &RouteClass) -> bool
     ensures route { IsTrue result → one.now.route ≡ other.now.route }
     ensures word { IsTrue result → one.now.class.word ≡ other.now.class.word }
 {
-    one.route == other.route && one.class.word() == other.class.word()
+    if one.route != other.route {
+        return false;
+    }
+    one.class.word() == other.class.word()
 }
 
 /// Whether a class is mended by its need.

@@ -22,6 +22,10 @@ use Rattle.mcv_route.specs.Tree.{Pool, Tree}
 use Rattle.mcv_symbolic.specs.JustifiedRoutes.{IsReadableAt}
 use Rattle.mcv_needs.specs.Wanted.{AreSetsByEra, AreSetsIn, AreWantedByEra, AreWantedOf, AreWithin, HaveEachEra, IsReadAt, IsReadNear}
 
+-- what each entry is, of none
+pub none_yet : {A : Type 0} (P : ℕ → A → Type 0) (k : ℕ) (x : A) → slice_get [] k ≡ Some x → P k x
+none_yet P k x e = absurd cc
+
 pub sets_are : (r : RoutesValue) (t : Tree) (rest : List ℕ) (era : ℕ) (since : Option ℕ) (s : SetsValue) → s ≡ record { tree = t; rest = rest; since = since } → (HasEra r era → IsEraOf r era since) → AreSetsIn r t rest era s
 sets_are r t rest era since s e opened = record {
   tree = ap (λ (x : SetsValue). x.tree) e;

@@ -8,6 +8,9 @@ use Rattle.mcv_route.proofs.BreakTables.{one_era}
 use Rattle.mcv_mended.specs.Members.{IsAskedWell}
 use Rattle.mcv_mended.proofs.mended.is_member_mended.Goals as goal
 
+pub loop-era-init : goal.loop-era-init
+loop-era-init c = λ n numbered era since lt is op. absurd (omega (arith, lt))
+
 pub loop-era-preserved : goal.loop-era-preserved
 loop-era-preserved c = λ n numbered era since lt is op.
     let r = c.args.routes.now in

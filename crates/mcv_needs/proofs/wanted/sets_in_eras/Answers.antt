@@ -3,8 +3,16 @@ use Rattle.mcv_alike.proofs.Numbers.{grown}
 use Rattle.mcv_base.specs.declared.request.Moment.{Moment}
 use Rattle.mcv_route.specs.View.{view}
 use Rattle.mcv_needs.specs.Wanted.{AreSetsByEra, AreSetsIn}
-use Rattle.mcv_needs.proofs.EraSets.{sets_are}
+use Rattle.mcv_needs.proofs.EraSets.{none_yet, sets_are}
 use Rattle.mcv_needs.proofs.wanted.sets_in_eras.Goals as goal
+
+pub loop-era-init : goal.loop-era-init
+loop-era-init c =
+    let r = c.args.routes.now in
+    let t = view c.args.route.now in
+    let rest = c.args.rest.now in
+    let items = c.in_ok-all.ensures.items in
+    record { many = ap length items; each = subst (AreSetsByEra r t rest) (sym items) (none_yet (AreSetsIn r t rest)) }
 
 pub loop-era-preserved : goal.loop-era-preserved
 loop-era-preserved c =

@@ -4,7 +4,14 @@ use Rattle.std.proofs.lemmas.Option.{slice_get-get_or}
 use Rattle.mcv_alike.proofs.Numbers.{grown}
 use Rattle.mcv_gaps.specs.Gaps.{WantedValue, wanted_of, wanteds_of}
 use Rattle.mcv_needs.specs.Wanted.{AreWantedByEra, IsWantedIn}
+use Rattle.mcv_gaps.specs.declared.gaps.Wanted.{Wanted}
+use Rattle.mcv_needs.proofs.EraSets.{none_yet}
 use Rattle.mcv_needs.proofs.wanted.wanted_in_each.Goals as goal
+
+pub loop-era-init : goal.loop-era-init
+loop-era-init c =
+    let items = c.in_ok-all.ensures.items in
+    record { many = ap length items; each = λ r d is from nears. subst (λ (ws : List Wanted). AreWantedByEra r d (wanteds_of ws)) (sym items) (none_yet (IsWantedIn r d)) }
 
 pub wanted_in-requires-clause-own : goal.wanted_in-requires-clause-own
 wanted_in-requires-clause-own c = (c.requires c.loop-era.era _ (slice_get-get_or c.args.nears.now c.loop-era.era (record { first = 0; end = 0 }) c.loop-era-test.true)).0
