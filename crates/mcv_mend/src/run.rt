@@ -133,11 +133,7 @@ fn confirm(alloc: Global, old: &Reading, needs: &[Need], text: &[u8]) -> Result<
 {
     let reading = read_again(alloc, text)?;
     let fine = is_right(alloc, old, &reading, needs)?;
-    if fine {
-        Ok(())
-    } else {
-        Err(MendFault::GaveUp)
-    }
+    if fine { Ok(()) } else { Err(MendFault::GaveUp) }
 }
 
 /// What a drafted text names.
@@ -154,12 +150,7 @@ fn read_again(alloc: Global, text: &[u8]) -> Result<Reading, MendFault>
 }
 
 /// Whether the new routes are covered, and are the old ones mended by these needs.
-fn is_right(
-    alloc: Global,
-    old: &Reading,
-    new: &Reading,
-    needs: &[Need],
-) -> Result<bool, AllocError>
+fn is_right(alloc: Global, old: &Reading, new: &Reading, needs: &[Need]) -> Result<bool, AllocError>
     requires aliases { aliases_value old.now.aliases.items ≡ route_aliases old.now.routes }
     requires also { aliases_value new.now.aliases.items ≡ route_aliases new.now.routes }
     requires classes { AreRouteClasses old.now.routes (map class_of_need needs.now) }
