@@ -7,4 +7,4 @@ use Rattle.mcv_needs.proofs.wanted.readable_near.Given as goal
 
 -- those of the eras so far
 abbrev pub invariant-loop-era : goal.invariant-loop-era
-invariant-loop-era l = (leaf : LegValue) → Contains (legs_of l.all.items) leaf ↔ IsReadNear l.sets l.near.first l.era leaf
+invariant-loop-era l = (leaf : LegValue) → Contains (legs_of l.all.items) leaf ↔ IsReadNear l.sets l.fn.near.first l.era leaf
