@@ -1,5 +1,5 @@
 -- The sets of a class, era by era, and the legs that can be read in some of them.
-use Rattle.std.proofs.Common.{◌≡◌, ◌<◌, ◌≤◌, ◌+◌, ◌↔◌, ⊎_elim, ◌⊎◌, inl, inr, ℕ, zero, suc, List, [], ◌∷◌, ◌++◌, Option, Some, get_or, length, refl, sym, ap, ◌∙◌, subst, arith}
+use Rattle.std.proofs.Common.{◌≡◌, ◌<◌, ◌≤◌, ◌+◌, ◌↔◌, ⊎_elim, inl, inr, ℕ, zero, suc, List, [], ◌++◌, Option, Some, get_or, length, refl, sym, ap, ◌∙◌, subst, arith}
 use Rattle.std.specs.Prelude.{option_map, slice_get}
 use Rattle.std.specs.List.{Contains}
 use Rattle.std.proofs.lemmas.Bool.{cases_lt}
@@ -9,7 +9,6 @@ use Rattle.mcv_blocks.specs.Spots.{AreNears}
 use Rattle.mcv_gaps.specs.Gaps.{WantedValue}
 use Rattle.mcv_route.specs.declared.eras.NearEras.{NearEras}
 use Rattle.mcv_blocks.specs.Blocks.{AreLeavesAt, pool_for}
-use Rattle.mcv_blocks.specs.Places.{IsRouteClass}
 use Rattle.mcv_blocks.specs.Sets.{SetsValue}
 use Rattle.mcv_blocks.specs.SetsInEras.{AreSetsFrom}
 use Rattle.mcv_blocks.specs.declared.classes.RouteClass.{RouteClass}
@@ -18,9 +17,9 @@ use Rattle.mcv_judge.specs.Reason.{LegValue}
 use Rattle.mcv_route.specs.Eras.{HasEra, IsEraOf}
 use Rattle.mcv_route.specs.Places.{pool_at_position}
 use Rattle.mcv_route.specs.Routes.{RouteEntry, RoutesValue}
-use Rattle.mcv_route.specs.Tree.{Pool, Tree}
+use Rattle.mcv_route.specs.Tree.{Tree}
 use Rattle.mcv_symbolic.specs.JustifiedRoutes.{IsReadableAt}
-use Rattle.mcv_needs.specs.Wanted.{AreSetsByEra, AreSetsIn, AreWantedByEra, AreWantedOf, AreWithin, HaveEachEra, IsReadAt, IsReadNear}
+use Rattle.mcv_needs.specs.Wanted.{AreSetsByEra, AreSetsIn, AreWantedByEra, AreWantedOf, AreWithin, HaveEachEra, IsReadNear}
 
 -- what each entry is, of none
 pub none_yet : {A : Type 0} (P : ℕ → A → Type 0) (k : ℕ) (x : A) → slice_get [] k ≡ Some x → P k x

@@ -1,5 +1,5 @@
 -- A row of the definitions: a block of one leaf that can be read, to which no acknowledged delete is sent.
-use Rattle.std.proofs.Common.{◌≡◌, ◌<◌, ℕ, true, List, [], ◌∷◌, ◌++◌, refl, sym, subst, arith}
+use Rattle.std.proofs.Common.{◌≡◌, ◌<◌, ℕ, true, List, [], ◌∷◌, refl, sym, subst, arith}
 use Rattle.std.specs.Prelude.{slice_index}
 use Rattle.mcv_gaps.specs.Gaps.{IsMissed}
 use Rattle.mcv_judge.specs.Reason.{BlockValue, LegValue}

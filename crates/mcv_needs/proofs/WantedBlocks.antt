@@ -1,5 +1,5 @@
 -- What deletes of a class in an era leave, by the blocks there.
-use Rattle.std.proofs.Common.{◌≡◌, ◌≢◌, ◌<◌, ◌≤◌, ◌+◌, ◌↔◌, ℕ, Bool, true, false, List, [], Option, Some, get_or, length, true≢false, refl, sym, ap, ◌∙◌, subst, arith}
+use Rattle.std.proofs.Common.{◌≡◌, ◌<◌, ◌≤◌, ◌+◌, ◌↔◌, ℕ, Bool, true, false, List, [], Some, get_or, length, true≢false, refl, sym, ap, ◌∙◌, subst, arith}
 use Rattle.std.specs.Prelude.{slice_get}
 use Rattle.std.specs.List.{Contains}
 use Rattle.std.proofs.lemmas.Option.{same_Some, slice_get-get_or}
@@ -7,20 +7,19 @@ use Rattle.mcv_blocks.specs.Blocks.{AreLeavesAt, IsAcknowledgedAt, IsBlockAt, Is
 use Rattle.mcv_blocks.specs.Places.{IsRouteClass}
 use Rattle.mcv_blocks.specs.Sets.{SetsValue}
 use Rattle.mcv_blocks.specs.SetsInEras.{AreSetsFrom, AreSetsOf}
-use Rattle.mcv_blocks.specs.Spots.{IsBlockFor, IsBlockWith, in_eras, spot_in}
+use Rattle.mcv_blocks.specs.Spots.{spot_in}
 use Rattle.mcv_blocks.specs.declared.classes.RouteClass.{RouteClass}
 use Rattle.mcv_blocks.proofs.BlockOfSets.{block_is_there, tree_of}
 use Rattle.mcv_blocks.proofs.OneListOfBlocks.{block_has, one_block}
 use Rattle.mcv_classes.specs.Class.{IsMember}
 use Rattle.mcv_classes.specs.Words.{class_words}
-use Rattle.mcv_gaps.specs.Gaps.{WantedValue}
 use Rattle.mcv_judge.specs.Reason.{BlockValue, LegValue}
-use Rattle.mcv_route.specs.Eras.{AreNearEras, IsEraOf, IsNear, IsNearEra}
+use Rattle.mcv_route.specs.Eras.{AreNearEras, IsEraOf, IsNearEra}
 use Rattle.mcv_route.specs.Routes.{RoutesValue}
 use Rattle.mcv_route.specs.Tree.{Tree}
 use Rattle.mcv_route.proofs.NearBreaks.{number_near}
 use Rattle.mcv_symbolic.specs.JustifiedRoutes.{IsNeverAcknowledged, IsReadableAt}
-use Rattle.mcv_needs.specs.Wanted.{IsAcknowledgedBlock, IsLeafOf, IsReadAt, IsReadNear, IsWantedFor, IsWantedIn}
+use Rattle.mcv_needs.specs.Wanted.{IsAcknowledgedBlock, IsReadNear, IsWantedIn}
 
 module _ (r : RoutesValue) (c : RouteClass) (is : IsRouteClass r c) where
   -- the sets of two near eras are of a spot, with one tree and one rest

@@ -18,8 +18,8 @@ returns-in-Delete c = λ r n numbered is.
     (subst (λ (p : List ℕ). Serves c.in_ok-old.old t (at p)) c.root-root.ensures c.in_ok-old.ensures) (subst (λ (p : List ℕ). Serves c.in_ok-new.new u (at p)) c.root-root.ensures c.in_ok-new.ensures)
     c.in-Delete.is (c.is_widened.ensures r n numbered is)
 
-pub returns-in_default : goal.returns-in_default
-returns-in_default c = λ r n numbered is.
+pub returns : goal.returns
+returns c = λ r n numbered is.
     let t = view c.args.sides.now.before.now in
     let u = view c.args.sides.now.after.now in
     let since = option_map (λ (m : Moment). m.0) c.args.since in

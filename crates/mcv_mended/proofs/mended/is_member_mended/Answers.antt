@@ -29,6 +29,6 @@ loop-era-preserved c = λ n numbered era since lt is op.
 
 pub returns : goal.returns
 returns c = λ n numbered _ era since is op.
-    let low = (c.era_count.ensures era).1 (since, is) in
+    let low = (c.era_count-era-end.ensures era).1 (since, is) in
     let past = c.loop-era-test.false in
     c.loop-era.invariant n numbered era since (omega (arith, low, past)) is op

@@ -1,4 +1,4 @@
-use Rattle.std.proofs.Common.{◌≡◌, ◌∙◌, ◌≤◌, ◌<◌, ℕ, List, ap, ◌∷◌, [], length, length-append, option_map, subst, sym, arith}
+use Rattle.std.proofs.Common.{◌∙◌, ap, ◌∷◌, [], length, length-append, option_map, subst, sym, arith}
 use Rattle.mcv_alike.proofs.Numbers.{grown}
 use Rattle.mcv_base.specs.declared.request.Moment.{Moment}
 use Rattle.mcv_route.specs.View.{view}

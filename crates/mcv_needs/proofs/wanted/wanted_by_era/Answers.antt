@@ -1,4 +1,4 @@
-use Rattle.std.proofs.Common.{◌≡◌, ◌∙◌, List, ap, length, subst, sym}
+use Rattle.std.proofs.Common.{◌∙◌, List, ap, length, subst, sym}
 use Rattle.std.proofs.lemmas.List.{length-map}
 use Rattle.mcv_gaps.specs.Gaps.{wanted_of, wanteds_of}
 use Rattle.mcv_route.specs.declared.eras.NearEras.{NearEras}

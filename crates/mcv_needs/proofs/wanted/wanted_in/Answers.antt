@@ -1,4 +1,4 @@
-use Rattle.std.proofs.Common.{◌≡◌, List, length, refl, subst, sym}
+use Rattle.std.proofs.Common.{List, length, refl, subst, sym}
 use Rattle.std.proofs.lemmas.Option.{slice_get_read}
 use Rattle.mcv_judge.specs.PairsInMemory.{legs_of}
 use Rattle.mcv_judge.specs.declared.block.Leg.{Leg}

@@ -1,4 +1,4 @@
-use Rattle.std.proofs.Common.{◌≡◌, ◌∙◌, ◌∷◌, [], ◌++◌, ℕ, List, Some, ap, get_or, length, length-append, subst, sym, arith}
+use Rattle.std.proofs.Common.{◌∙◌, ◌∷◌, [], ℕ, List, ap, length, length-append, subst, sym, arith}
 use Rattle.std.proofs.lemmas.List.{length-map, map-append}
 use Rattle.std.proofs.lemmas.Option.{slice_get-get_or}
 use Rattle.mcv_alike.proofs.Numbers.{grown}
