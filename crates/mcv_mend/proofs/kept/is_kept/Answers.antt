@@ -1,4 +1,5 @@
 use Rattle.std.proofs.Common.{◌≡◌, ◌<◌, ◌≤◌, ◌+◌, ◌∙◌, ℕ, drop, get_or, length, subst, arith}
+use Rattle.std.proofs.lemmas.Bool.{eqb-true}
 use Rattle.mcv_mend.specs.Kept.{IsKeptIn}
 use Rattle.mcv_mend.proofs.Insertions.{all_kept, met, passed}
 use Rattle.mcv_mend.proofs.kept.is_kept.Goals as goal
@@ -32,4 +33,6 @@ loop-byte-preserved c =
     ]
 
 pub returns : goal.returns
-returns c = λ is. c.loop-byte.invariant.leads (all_kept c.args.input.now _ c.loop-byte.kept (omega arith))
+returns c = λ is.
+    let all : c.loop-byte.kept ≡ length c.args.input.now = eqb-true c.loop-byte.kept (length c.args.input.now) is in
+    c.loop-byte.invariant.leads (all_kept c.args.input.now _ c.loop-byte.kept (omega (arith, all)))
