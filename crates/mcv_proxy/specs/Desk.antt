@@ -6,24 +6,27 @@ use Rattle.mcv_base.specs.Reply.{ReplyValue, part_value}
 use Rattle.mcv_base.specs.declared.key.KeyFault.{KeyFault}
 use Rattle.mcv_base.specs.declared.operation.Op.{Op}
 use Rattle.mcv_base.specs.declared.request.CallId.{CallId}
+use Rattle.mcv_base.specs.declared.request.Request.{Request}
+use Rattle.mcv_core.specs.Asking as asking
 use Rattle.mcv_core.specs.View.{core_view}
 use Rattle.mcv_core.specs.declared.fault.CoreFault.{CoreFault}
 use Rattle.mcv_core.specs.declared.fault.CoreFault.TheVariants.{UnknownPrefix, BadKey, LegsFull, ChapterFull, NothingWaiting, NoSuchLeg, Busy, ClockBack, Memory, NoSuchCall}
 use Rattle.mcv_hub.specs.State.{HistoryKeepsDeletes, HubView, IsCallOf, Replies}
 use Rattle.mcv_hub.specs.declared.receipts.Receipt.{Receipt}
 use Rattle.mcv_hub.specs.declared.seat.TakenReply.{TakenReply}
+use Rattle.mcv_pools.specs.Hash.{fnv_index}
 use Rattle.mcv_route.specs.Places.{route_of_prefix}
 use Rattle.mcv_route.specs.Routes.{RoutesValue}
 use Rattle.mcv_session.specs.Desk.{keys_of}
 use Rattle.mcv_session.specs.declared.desk.DeskFault.{DeskFault}
 use Rattle.mcv_session.specs.declared.desk.DeskFault.TheVariants as answers
-use Rattle.mcv_text.specs.Request.{RequestValue, asking, version, quit}
+use Rattle.mcv_text.specs.Request.{RequestValue, asking as asks, version, quit, request_value}
 
 -- ---- keys
 
 -- the operation of a request, and its key word of this number, from 0
 abbrev pub word_at : RequestValue → ℕ → Option (Op × List ℕ)
-word_at (asking ask) key = option_map (λ word. (ask.op, word)) (slice_get ask.keys key)
+word_at (asks ask) key = option_map (λ word. (ask.op, word)) (slice_get ask.keys key)
 word_at version key = None
 word_at quit key = None
 
@@ -106,25 +109,20 @@ pub record IsRefusedAt (r : RoutesValue) (request : RequestValue) (key : ℕ) (f
   pub there : word_at request key ≡ Some (op, word)
   pub unrouted : IsUnrouted r word fault
 
--- the hub refuses to begin a call for these reasons alone
-abbrev pub IsRefusal : CoreFault → Type 0
-IsRefusal UnknownPrefix = ⊤
-IsRefusal BadKey = ⊤
-IsRefusal LegsFull = ⊤
-IsRefusal ChapterFull = ⊤
-IsRefusal NothingWaiting = ⊥
-IsRefusal NoSuchLeg = ⊥
-IsRefusal Busy = ⊥
-IsRefusal ClockBack = ⊥
-IsRefusal Memory = ⊤
-IsRefusal NoSuchCall = ⊥
+-- in a state of the hub in which deletes are kept, a call for the key of this number was refused for this cause
+pub record WasRefused (request : RequestValue) (key : ℕ) (fault : CoreFault) : Type 0 where
+  pub state : HubView
+  pub keeps : HistoryKeepsDeletes (core_view state.core) state.history
+  pub asked : Request
+  pub its : request_value asked ≡ request
+  pub cause : asking.IsUnbegun (core_view state.core) fnv_index asked key fault
 
--- why no call is begun for the key of this number. The hub may be full, and memory may run out, at any time
+-- why no call is begun for the key of this number. Memory may run out at any time
 abbrev pub IsUnbegun : RoutesValue → RequestValue → ℕ → CoreFault → Type 0
 IsUnbegun r request key UnknownPrefix = IsRefusedAt r request key UnknownPrefix
 IsUnbegun r request key BadKey = IsRefusedAt r request key BadKey
-IsUnbegun r request key LegsFull = ⊤
-IsUnbegun r request key ChapterFull = ⊤
+IsUnbegun r request key LegsFull = WasRefused request key LegsFull
+IsUnbegun r request key ChapterFull = WasRefused request key ChapterFull
 IsUnbegun r request key NothingWaiting = ⊥
 IsUnbegun r request key NoSuchLeg = ⊥
 IsUnbegun r request key Busy = ⊥

@@ -5,11 +5,12 @@ ghost use Rattle.std.specs.Arc.{arc_value};
 ghost use Rattle.std.specs.List.{All, filter};
 ghost use Rattle.mcv_text.specs.Request.{request_value};
 ghost use Rattle.mcv_session.specs.Desk.{keys_of};
-ghost use Rattle.mcv_proxy.specs.Desk.{AreFor, AreTaken, Asks, IsFor, IsRefusal, IsRouted, IsUnanswered, IsUnbegun, IsUnrouted, WasTaken, desk_fault, with_receipt, word_at};
+ghost use Rattle.mcv_proxy.specs.Desk.{AreFor, AreTaken, Asks, IsFor, IsRouted, IsUnanswered, IsUnbegun, IsUnrouted, WasRefused, WasTaken, desk_fault, with_receipt, word_at};
 
 use crate::agenda::Agenda;
 use crate::errands::Errands;
 use crate::events;
+use crate::events::Attempt;
 use crate::gates::{Link, Watch};
 use crate::lanes::{Lanes, Links};
 use mcv_base::{CallId, Op, Part, Request, Rest, key_words_have_one_reading, split_key};
@@ -193,7 +194,7 @@ fn are_for(routes: &Routes, request: &Request, taken: &[TakenReply]) -> bool
 
 /// Why the hub began no call for a key, as far as the routes say so: where one of them takes it, it is NoSuchCall.
 fn confirmed(routes: &Routes, request: &Request, key: usize, fault: CoreFault) -> CoreFault
-    requires { IsRefusal fault }
+    requires { WasRefused (request_value request.now) key fault }
     ensures { IsUnbegun routes.now (request_value request.now) key result }
 {
     match fault {
@@ -246,32 +247,21 @@ fn begin_in_chapter<'a, B: Ledger, T: Ledger, R: Wait + Clock>(
     request: &Arc<Request>,
     key: usize,
 ) -> (Guard<'a, B, T>, Result<CallId, CoreFault>)
-    ensures err { IfErr result.1 IsRefusal }
+    ensures err { IfErr result.1 (WasRefused (request_value (arc_value request.now)) key) }
     ensures begun { OnOk result.1 (seat.new.begun.amount ≡ seat.old.begun.amount + 1) }
     ensures unbegun { OnErr result.1 (seat.new.begun.amount ≡ seat.old.begun.amount) }
     ensures taken { seat.new.taken.amount ≡ seat.old.taken.amount }
 {
     let mut guard = guard;
     let mut patience = Patience { since: None };
-    let mut has_turned = false;
     for _attempt in rt.forever() {
-        let Ok(request) = Arc::try_clone(request) else {
-            return (guard, Err(CoreFault::Memory));
-        };
-        match events::begin(alloc, agenda, &mut guard, seat, request, key) {
-            Err(CoreFault::ChapterFull) => {}
-            answer => return (guard, answer),
+        let Attempt { begun, may_wait } = events::begin_in_turn(
+            alloc, agenda, &mut guard, seat, request, key,
+        );
+        if !may_wait || key > 0 || patience.is_over(rt) {
+            return (guard, begun);
         }
-        if has_turned {
-            return (guard, Err(CoreFault::ChapterFull));
-        }
-        has_turned = guard.turn().is_ok();
-        if !has_turned {
-            if key > 0 || patience.is_over(rt) {
-                return (guard, Err(CoreFault::ChapterFull));
-            }
-            guard = hub.wait_for(rt, guard, Bell::Chapter, Duration::from_millis(PAUSE));
-        }
+        guard = hub.wait_for(rt, guard, Bell::Chapter, Duration::from_millis(PAUSE));
     }
     unreachable!()
 }

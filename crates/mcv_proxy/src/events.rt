@@ -1,13 +1,15 @@
 //! Events on the borrowed state, and whom they let go on.
 
-ghost use Rattle.std.specs.Prelude.{◌≡◌, ◌+◌, IfErr, OnErr, OnOk};
+ghost use Rattle.std.specs.Prelude.{◌≡◌, ◌↔◌, ◌+◌, true, Err, IfErr, OnErr, OnOk};
 ghost use Rattle.std.specs.Arc.{arc_value};
 ghost use Rattle.mcv_pools.specs.Hash.{fnv_index};
 ghost use Rattle.mcv_core.specs.Events.{IsAnsweredLeg, IsBegun, IsRefusedLeg, IsSpooledLeg};
 ghost use Rattle.mcv_core.specs.View.{core_view};
+ghost use Rattle.mcv_core.specs.declared.fault.CoreFault.TheVariants.{ChapterFull as FullChapter};
 ghost use Rattle.mcv_hub.specs.Events.{IsHubEvent};
-ghost use Rattle.mcv_proxy.specs.Desk.{IsRefusal};
-ghost use Rattle.mcv_proxy.specs.Events.{IsLoss};
+ghost use Rattle.mcv_text.specs.Request.{request_value};
+ghost use Rattle.mcv_proxy.specs.Desk.{WasRefused};
+ghost use Rattle.mcv_proxy.specs.Events.{IsAttempt, IsLoss};
 ghost use Rattle.mcv_proxy.specs.Steps.{IsLanding};
 
 use crate::agenda::Agenda;
@@ -93,7 +95,7 @@ fn note_begun<B: Ledger, T: Ledger>(
 }
 
 /// Begins a call for one key of the request.
-pub(crate) fn begin<B: Ledger, T: Ledger>(
+fn begin<B: Ledger, T: Ledger>(
     alloc: Global,
     agenda: &mut Agenda<'_, B, T>,
     guard: &mut Guard<'_, B, T>,
@@ -105,12 +107,88 @@ pub(crate) fn begin<B: Ledger, T: Ledger>(
     ensures begun { OnOk result (seat.new.begun.amount ≡ seat.old.begun.amount + 1) }
     ensures unbegun { OnErr result (seat.new.begun.amount ≡ seat.old.begun.amount) }
     ensures taken { seat.new.taken.amount ≡ seat.old.taken.amount }
-    ensures refused { IfErr result IsRefusal }
+    ensures refused { IfErr result (WasRefused (request_value (arc_value request)) key) }
 {
+    guard.deletes_are_kept();
     let first = guard.core().next_leg();
     let begun = guard.begin(alloc, seat, request, key);
     note_begun(agenda, guard.core(), first, &begun);
     begun
+}
+
+/// Begins a call for one key of a request that others share. Memory is one of the errors.
+fn begin_shared<B: Ledger, T: Ledger>(
+    alloc: Global,
+    agenda: &mut Agenda<'_, B, T>,
+    guard: &mut Guard<'_, B, T>,
+    seat: &mut Seat<B, T>,
+    request: &Arc<Request>,
+    key: usize,
+) -> Result<CallId, CoreFault>
+    ensures event { IsHubEvent (IsBegun (core_view guard.old.core) fnv_index (arc_value request.now) key result) guard.old guard.new }
+    ensures begun { OnOk result (seat.new.begun.amount ≡ seat.old.begun.amount + 1) }
+    ensures unbegun { OnErr result (seat.new.begun.amount ≡ seat.old.begun.amount) }
+    ensures taken { seat.new.taken.amount ≡ seat.old.taken.amount }
+    ensures refused { IfErr result (WasRefused (request_value (arc_value request.now)) key) }
+{
+    guard.deletes_are_kept();
+    match Arc::try_clone(request) {
+        Ok(shared) => begin(alloc, agenda, guard, seat, shared, key),
+        Err(_) => Err(CoreFault::Memory),
+    }
+}
+
+/// Whether the chapter had no place for the call.
+fn is_chapter_full(begun: &Result<CallId, CoreFault>) -> bool
+    ensures { (result ≡ true) ↔ (begun.now ≡ Err FullChapter) }
+{
+    match begun {
+        Ok(_) => false,
+        Err(fault) => *fault == CoreFault::ChapterFull,
+    }
+}
+
+/// What came of beginning a call.
+#[derive(Drop)]
+pub(crate) struct Attempt {
+    pub begun: Result<CallId, CoreFault>,
+    /// Whether the chapter has no place for the call, and can't end yet.
+    pub may_wait: bool,
+}
+
+/// Begins a call for one key of the request. Where the chapter has no place for it a new one begins, and in this the call
+/// is begun once more.
+pub(crate) fn begin_in_turn<B: Ledger, T: Ledger>(
+    alloc: Global,
+    agenda: &mut Agenda<'_, B, T>,
+    guard: &mut Guard<'_, B, T>,
+    seat: &mut Seat<B, T>,
+    request: &Arc<Request>,
+    key: usize,
+) -> Attempt
+    ensures attempt { IsAttempt guard.old (arc_value request.now) key result guard.new }
+    ensures begun { OnOk result.begun (seat.new.begun.amount ≡ seat.old.begun.amount + 1) }
+    ensures unbegun { OnErr result.begun (seat.new.begun.amount ≡ seat.old.begun.amount) }
+    ensures taken { seat.new.taken.amount ≡ seat.old.taken.amount }
+    ensures refused { IfErr result.begun (WasRefused (request_value (arc_value request.now)) key) }
+{
+    let begun = begin_shared(alloc, agenda, guard, seat, request, key);
+    if !is_chapter_full(&begun) {
+        return Attempt {
+            begun,
+            may_wait: false,
+        };
+    }
+    match guard.turn() {
+        Ok(()) => Attempt {
+            begun: begin_shared(alloc, agenda, guard, seat, request, key),
+            may_wait: false,
+        },
+        Err(_) => Attempt {
+            begun,
+            may_wait: true,
+        },
+    }
 }
 
 /// A leg in flight was answered.
