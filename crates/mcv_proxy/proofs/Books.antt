@@ -1,5 +1,5 @@
 -- What a seat counts, by what an event of the hub is.
-use Rattle.std.proofs.Common.{◌≡◌, ◌+◌, ℕ, List, Option, None, Some, Result, Ok, Err, ap, arith, refl}
+use Rattle.std.proofs.Common.{◌≡◌, ◌≢◌, ◌+◌, ℕ, List, Option, None, Some, Result, Ok, Err, ap, arith, refl}
 use Rattle.std.specs.Prelude.{IfErr, IfNone, IfOk, IfSome, OnErr, OnOk}
 use Rattle.mcv_base.specs.declared.request.CallId.{CallId}
 use Rattle.mcv_base.specs.declared.request.Request.{Request}
@@ -8,13 +8,14 @@ use Rattle.mcv_pools.specs.Symbol.{SymbolValue}
 use Rattle.mcv_core.specs.Events.{IsBegun, IsTaken}
 use Rattle.mcv_core.specs.View.{core_view}
 use Rattle.mcv_core.specs.declared.fault.CoreFault.{CoreFault}
-use Rattle.mcv_core.specs.declared.fault.CoreFault.TheVariants.{Memory, NoSuchCall}
+use Rattle.mcv_core.specs.declared.fault.CoreFault.TheVariants.{UnknownPrefix, BadKey, LegsFull, ChapterFull, NothingWaiting, NoSuchLeg, Busy, ClockBack, Memory, NoSuchCall}
 use Rattle.mcv_hub.specs.Events.{IsHubEvent, taken_part}
 use Rattle.mcv_hub.specs.History.{begun_by, taken_by}
 use Rattle.mcv_hub.specs.State.{HistoryKeepsDeletes, HubView}
 use Rattle.mcv_hub.specs.declared.seat.TakenReply.{TakenReply}
-use Rattle.mcv_proxy.specs.Desk.{WasRefused}
-use Rattle.mcv_text.specs.Request.{request_value}
+use Rattle.mcv_proxy.specs.Desk.{IsUnbegun, WasRefused}
+use Rattle.mcv_route.specs.Routes.{RoutesValue}
+use Rattle.mcv_text.specs.Request.{RequestValue, request_value}
 
 -- ---- a call begins
 
@@ -48,6 +49,19 @@ pub was_refused : (request : Request) (key : ℕ) (old new : HubView) (r : Resul
     → IfErr r (WasRefused (request_value request) key)
 was_refused request key old new (Ok call) keeps h = tt
 was_refused request key old new (Err fault) keeps h = record { state = old; keeps = keeps; asked = request; its = refl; cause = h.event.cause }
+
+-- one that doesn't lie in the key
+pub other_unbegun : (r : RoutesValue) (request : RequestValue) (key : ℕ) (fault : CoreFault) → fault ≢ UnknownPrefix → fault ≢ BadKey → WasRefused request key fault → IsUnbegun r request key fault
+other_unbegun r request key UnknownPrefix prefix no_key h = absurd (prefix refl)
+other_unbegun r request key BadKey prefix no_key h = absurd (no_key refl)
+other_unbegun r request key LegsFull prefix no_key h = h
+other_unbegun r request key ChapterFull prefix no_key h = h
+other_unbegun r request key NothingWaiting prefix no_key h = h.cause
+other_unbegun r request key NoSuchLeg prefix no_key h = h.cause
+other_unbegun r request key Busy prefix no_key h = h.cause
+other_unbegun r request key ClockBack prefix no_key h = h.cause
+other_unbegun r request key Memory prefix no_key h = tt
+other_unbegun r request key NoSuchCall prefix no_key h = tt
 
 -- ---- a reply is taken
 

@@ -167,6 +167,7 @@ pub(crate) fn begin_in_turn<B: Ledger, T: Ledger>(
     key: usize,
 ) -> Attempt
     ensures attempt { IsAttempt guard.old (arc_value request.now) key result guard.new }
+    ensures waits { result.may_wait ≡ true → seat.new.begun.amount ≡ seat.old.begun.amount }
     ensures begun { OnOk result.begun (seat.new.begun.amount ≡ seat.old.begun.amount + 1) }
     ensures unbegun { OnErr result.begun (seat.new.begun.amount ≡ seat.old.begun.amount) }
     ensures taken { seat.new.taken.amount ≡ seat.old.taken.amount }
