@@ -1,20 +1,20 @@
 -- What a seat counts, by what an event of the hub is.
-use Rattle.std.proofs.Common.{◌≡◌, ◌≢◌, ◌+◌, ℕ, List, Option, None, Some, Result, Ok, Err, ap, arith, refl}
+use Rattle.std.proofs.Common.{◌≡◌, ◌+◌, ℕ, List, Option, None, Some, Result, Ok, Err, ap, arith, length, refl, subst, sym}
 use Rattle.std.specs.Prelude.{IfErr, IfNone, IfOk, IfSome, OnErr, OnOk}
 use Rattle.mcv_base.specs.declared.request.CallId.{CallId}
 use Rattle.mcv_base.specs.declared.request.Request.{Request}
 use Rattle.mcv_pools.specs.Hash.{fnv_index}
 use Rattle.mcv_pools.specs.Symbol.{SymbolValue}
+use Rattle.mcv_core.specs.CoreView.{CoreView}
 use Rattle.mcv_core.specs.Events.{IsBegun, IsTaken}
 use Rattle.mcv_core.specs.View.{core_view}
 use Rattle.mcv_core.specs.declared.fault.CoreFault.{CoreFault}
 use Rattle.mcv_core.specs.declared.fault.CoreFault.TheVariants.{UnknownPrefix, BadKey, LegsFull, ChapterFull, NothingWaiting, NoSuchLeg, Busy, ClockBack, Memory, NoSuchCall}
 use Rattle.mcv_hub.specs.Events.{IsHubEvent, taken_part}
 use Rattle.mcv_hub.specs.History.{begun_by, taken_by}
-use Rattle.mcv_hub.specs.State.{HistoryKeepsDeletes, HubView}
+use Rattle.mcv_hub.specs.State.{HistoryKeepsDeletes, HubView, IsOf}
 use Rattle.mcv_hub.specs.declared.seat.TakenReply.{TakenReply}
-use Rattle.mcv_proxy.specs.Desk.{IsUnbegun, WasRefused}
-use Rattle.mcv_route.specs.Routes.{RoutesValue}
+use Rattle.mcv_proxy.specs.Desk.{AreFor, IsUnanswered, IsUnbegun, WasRefused}
 use Rattle.mcv_text.specs.Request.{RequestValue, request_value}
 
 -- ---- a call begins
@@ -45,23 +45,27 @@ module _ (chosen : SymbolValue → List ℕ → ℕ) (request : Request) (key : 
   begun_takes (Err fault) a a2 h sum = let none = ap taken_by h.event.none in let more = h.taken in omega (arith, sum, none, more)
 
 -- a refusal has its cause in the state before
-pub was_refused : (request : Request) (key : ℕ) (old new : HubView) (r : Result CallId CoreFault) → HistoryKeepsDeletes (core_view old.core) old.history → IsHubEvent (IsBegun (core_view old.core) fnv_index request key r) old new
-    → IfErr r (WasRefused (request_value request) key)
-was_refused request key old new (Ok call) keeps h = tt
-was_refused request key old new (Err fault) keeps h = record { state = old; keeps = keeps; asked = request; its = refl; cause = h.event.cause }
+pub was_refused : (start : CoreView) (request : Request) (key : ℕ) (old new : HubView) (r : Result CallId CoreFault) → IsOf start old → HistoryKeepsDeletes (core_view old.core) old.history → IsHubEvent (IsBegun (core_view old.core) fnv_index request key r) old new
+    → IfErr r (WasRefused start (request_value request) key)
+was_refused start request key old new (Ok call) hub keeps h = tt
+was_refused start request key old new (Err fault) hub keeps h = record { state = old; seen = record { hub = hub; keeps = keeps }; asked = request; its = refl; cause = h.event.cause }
 
--- one that doesn't lie in the key
-pub other_unbegun : (r : RoutesValue) (request : RequestValue) (key : ℕ) (fault : CoreFault) → fault ≢ UnknownPrefix → fault ≢ BadKey → WasRefused request key fault → IsUnbegun r request key fault
-other_unbegun r request key UnknownPrefix prefix no_key h = absurd (prefix refl)
-other_unbegun r request key BadKey prefix no_key h = absurd (no_key refl)
-other_unbegun r request key LegsFull prefix no_key h = h
-other_unbegun r request key ChapterFull prefix no_key h = h
-other_unbegun r request key NothingWaiting prefix no_key h = h.cause
-other_unbegun r request key NoSuchLeg prefix no_key h = h.cause
-other_unbegun r request key Busy prefix no_key h = h.cause
-other_unbegun r request key ClockBack prefix no_key h = h.cause
-other_unbegun r request key Memory prefix no_key h = tt
-other_unbegun r request key NoSuchCall prefix no_key h = tt
+-- why the request isn't answered then
+unbegun : (start : CoreView) (request : RequestValue) (taken : List TakenReply) (fault : CoreFault) → AreFor start.routes request taken → WasRefused start request (length taken) fault → IsUnanswered start request taken fault
+unbegun start request taken UnknownPrefix are h = (are, h)
+unbegun start request taken BadKey are h = (are, h)
+unbegun start request taken LegsFull are h = (are, h)
+unbegun start request taken ChapterFull are h = (are, h)
+unbegun start request taken NothingWaiting are h = (are, h)
+unbegun start request taken NoSuchLeg are h = (are, h)
+unbegun start request taken Busy are h = (are, h)
+unbegun start request taken ClockBack are h = (are, h)
+unbegun start request taken Memory are h = (are, tt)
+unbegun start request taken NoSuchCall are h = tt
+
+pub unanswered : (start : CoreView) (request : RequestValue) (calls : ℕ) (taken : List TakenReply) (begun : Result (Unit {0}) CoreFault) → AreFor start.routes request taken → length taken ≡ calls → IfErr begun (WasRefused start request calls) → IfErr begun (IsUnanswered start request taken)
+unanswered start request calls taken (Ok done) are all h = tt
+unanswered start request calls taken (Err fault) are all h = unbegun start request taken fault are (subst (λ n. WasRefused start request n fault) (sym all) h)
 
 -- ---- a reply is taken
 

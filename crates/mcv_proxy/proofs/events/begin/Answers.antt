@@ -13,4 +13,4 @@ pub returns-clause-taken : goal.returns-clause-taken
 returns-clause-taken g c = begun_takes fnv_index (arc_value c.args.request) c.args.key c.args.guard.now c.begin-begun.new.self c.begin-begun.result c.args.seat.now.taken.amount c.begin-begun.new.seat.taken.amount c.begin-begun.ensures.event c.begin-begun.ensures.taken
 
 pub returns-clause-refused : goal.returns-clause-refused
-returns-clause-refused g c = was_refused (arc_value c.args.request) c.args.key c.args.guard.now c.begin-begun.new.self c.begin-begun.result c.deletes_are_kept.ensures c.begin-begun.ensures.event
+returns-clause-refused g c = was_refused g.B.HubLedger.opened (arc_value c.args.request) c.args.key c.args.guard.now c.begin-begun.new.self c.begin-begun.result c.is_opened.ensures c.deletes_are_kept.ensures c.begin-begun.ensures.event

@@ -22,9 +22,9 @@ returns-in-Err-clause-event g c = without_memory c.args.guard.now fnv_index (arc
 
 pub returns-in-Ok-clause-refused : goal.returns-in-Ok-clause-refused
 returns-in-Ok-clause-refused g c =
-    let P : Request → Type 0 = λ r. IfErr c.begin.result (WasRefused (request_value r) c.args.key) in
+    let P : Request → Type 0 = λ r. IfErr c.begin.result (WasRefused g.B.HubLedger.opened (request_value r) c.args.key) in
     subst P c.in-Ok.ensures c.begin.ensures.refused
 
 pub returns-in-Err-clause-refused : goal.returns-in-Err-clause-refused
 returns-in-Err-clause-refused g c =
-    was_refused (arc_value c.args.request.now) c.args.key c.args.guard.now c.args.guard.now (Err Memory) c.deletes_are_kept.ensures (without_memory c.args.guard.now fnv_index (arc_value c.args.request.now) c.args.key)
+    was_refused g.B.HubLedger.opened (arc_value c.args.request.now) c.args.key c.args.guard.now c.args.guard.now (Err Memory) c.is_opened.ensures c.deletes_are_kept.ensures (without_memory c.args.guard.now fnv_index (arc_value c.args.request.now) c.args.key)
