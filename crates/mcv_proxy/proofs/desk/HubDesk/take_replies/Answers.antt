@@ -1,14 +1,16 @@
-use Rattle.std.proofs.Common.{◌≡◌, length, ap, refl, rules, subst, sym}
+use Rattle.std.proofs.Common.{◌≡◌, length, rules}
 use Rattle.std.specs.Arc.{arc_value}
-use Rattle.mcv_route.specs.Routes.{RoutesValue}
 use Rattle.mcv_text.specs.Request.{request_value}
 use Rattle.mcv_proxy.specs.Desk.{AreFor}
 use Rattle.mcv_proxy.proofs.Books.{unanswered}
 use Rattle.mcv_proxy.proofs.desk.HubDesk.take_replies.Goals as goal
 
--- the desk's routes are the hub's
-pub returns-clause-for_keys : goal.returns-clause-for_keys
-returns-clause-for_keys g c = ?
-
 pub returns-clause-err : goal.returns-clause-err
-returns-clause-err g c = ?
+returns-clause-err g c =
+    let start = g.B.HubLedger.opened in
+    let request = request_value (arc_value c.args.request.now) in
+    let calls = c.begin_all-begun.new.calls.items in
+    let taken = c.take_all-outcome.new.taken.items in
+    let are : AreFor start.routes request taken = search rules in
+    let all : length taken ≡ length calls = search rules in
+    unanswered start request (length calls) taken c.begin_all-begun.result are all c.begin_all-begun.ensures.err
