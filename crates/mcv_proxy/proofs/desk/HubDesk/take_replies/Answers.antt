@@ -1,4 +1,5 @@
 use Rattle.std.proofs.Common.{◌≡◌, length, rules}
+use Rattle.std.specs.Prelude.{vec_len}
 use Rattle.std.specs.Arc.{arc_value}
 use Rattle.mcv_text.specs.Request.{request_value}
 use Rattle.mcv_proxy.specs.Desk.{AreFor}
@@ -9,8 +10,8 @@ pub returns-clause-err : goal.returns-clause-err
 returns-clause-err g c =
     let start = g.B.HubLedger.opened in
     let request = request_value (arc_value c.args.request.now) in
-    let calls = c.begin_all-begun.new.calls.items in
+    let calls = vec_len c.begin_all-begun.new.calls in
     let taken = c.take_all-outcome.new.taken.items in
     let are : AreFor start.routes request taken = search rules in
-    let all : length taken ≡ length calls = search rules in
-    unanswered start request (length calls) taken c.begin_all-begun.result are all c.begin_all-begun.ensures.err
+    let all : length taken ≡ calls = search rules in
+    unanswered start request calls taken c.begin_all-begun.result are all c.begin_all-begun.ensures.err
