@@ -610,7 +610,8 @@ impl<'a, B: HubLedger, T: Ledger, L: Link, W: Watch, R: Wait + Clock> HubDesk<'a
         ensures err { IfErr result (IsUnanswered B.opened (request_value (arc_value request.now)) taken.new.items) }
     {
         let count = key_count(request);
-        let routes = self.caller.hub.routes();
+        let hub = self.caller.hub;
+        let routes = hub.routes();
         let begun = self.caller.begin_all(request, count, calls);
         let outcome = self.caller.take_all(calls.as_slice(), taken);
         self.kept.keep_all(taken.as_slice());
