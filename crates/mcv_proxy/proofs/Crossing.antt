@@ -146,17 +146,17 @@ module _ (I O W : RattleType) where
   visitor_send i o w = search (visitor.the_send, sendable, crosses) depth 24
 
 module _ (B T D : RattleType) (h : hubs.Ghosts B.Denot) (b : Ghosts B.Denot) (t : Ghosts T.Denot) (d : disk.Ghosts D.Denot) where
-  shared_send : IsSend D → IsSend (Shared.the_row B T D d h b t)
+  shared_send : IsSend D → IsSend (Shared.the_row B T D h d b t)
   shared_send s = search (accepted_send, accepted_sync, hub_send, lanes_send, spool.the_send, ends_send, sender.the_send, sendable, crosses) depth 24
 
-  shared_sync : IsSend D → IsSync (Shared.the_row B T D d h b t)
+  shared_sync : IsSend D → IsSync (Shared.the_row B T D h d b t)
   shared_sync s = search (accepted_send, accepted_sync, hub_sync, lanes_sync, spool.the_send, ends_sync, sender.the_sync, sendable, crosses) depth 24
 
-  pub shared_shared : IsSend D → IsSend (Arc.the_row (Shared.the_row B T D d h b t) Heap.the_row ghosts)
-  shared_shared s = Arc-send (Shared.the_row B T D d h b t) (shared_send s) (shared_sync s)
+  pub shared_shared : IsSend D → IsSend (Arc.the_row (Shared.the_row B T D h d b t) Heap.the_row ghosts)
+  shared_shared s = Arc-send (Shared.the_row B T D h d b t) (shared_send s) (shared_sync s)
 
 module _ (B T D L Begun : RattleType) (h : hubs.Ghosts B.Denot) (b : Ghosts B.Denot) (t : Ghosts T.Denot) (d : disk.Ghosts D.Denot) where
-  pub context_send : IsSend D → IsSend L → IsSend (Context.the_row B T D L Begun d h b t)
+  pub context_send : IsSend D → IsSend L → IsSend (Context.the_row B T D L Begun h d b t)
   context_send s l = search (shared_shared, links.the_send, links.the_sync, sendable, crosses) depth 24
 
 module _ (D : RattleType) (d : disk.Ghosts D.Denot) where
