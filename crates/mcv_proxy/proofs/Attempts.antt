@@ -13,7 +13,7 @@ use Rattle.mcv_proxy.specs.Events.{Begins, IsTried}
 module _ (request : Request) (key : ℕ) (begun : Result CallId CoreFault) where
   -- the chapter isn't full
   pub begins_here : (old new : HubView) (full : Bool) → ((full ≡ true) ↔ (begun ≡ Err ChapterFull)) → full ≡ false → Begins old request key begun new → IsTried old request key false begun new
-  begins_here old new full is no h = inl (h, λ e. false≢true (sym no ∙ is.1 e))
+  begins_here old new full is room h = inl (h, λ e. false≢true (sym room ∙ is.1 e))
 
   -- it is, and the next one begins
   pub begins_in_next : (old full turned new : HubView) (first : Result CallId CoreFault) → first ≡ Err ChapterFull → Begins old request key first full → BeginsChapter full turned → Begins turned request key begun new → IsTried old request key false begun new
