@@ -11,11 +11,11 @@ ghost use Rattle.mcv_route.specs.Routes.{RoutesValue, within};
 ghost use Rattle.mcv_symbolic.specs.CoveredRoutes.{AreCovered};
 ghost use Rattle.mcv_verdict.specs.Fault.{IsRefusedBy, IsRefusedFor, IsRunFault, of_check};
 ghost use Rattle.mcv_verdict.specs.Text.{covered_line};
-ghost use Rattle.mcv_verdict.specs.Verdict.{IsJudgement, IsVerdict, IsVerdictBy, IsVerdictFor, IsVerdictOn};
+ghost use Rattle.mcv_verdict.specs.Verdict.{IsJudged, IsJudgedBy, IsJudgedFor, IsJudgement, IsVerdict, IsVerdictBy, IsVerdictFor, IsVerdictOn};
 ghost use Rattle.mcv_witness.specs.Finding.{finding_of};
 
 use crate::text::covered_line;
-use crate::verdict::{Judgement, Verdict};
+use crate::verdict::{Judged, Judgement, Verdict};
 use mcv_cert::{Certificate, read_certificate};
 use mcv_check::{Accepted, CheckFault, check};
 use mcv_input::{RunFault, read_configuration, write_text};
@@ -101,9 +101,9 @@ fn refused(fault: CheckFault) -> RunFault
     }
 }
 
-/// What is found of routes. Who made the certificate isn't trusted: it is checked like any other.
-fn judge_routes(alloc: Global, routes: Routes) -> Result<Judgement, RunFault>
-    ensures judged { IfOk result (IsJudgement routes) }
+/// What is found of routes by a certificate made here. Who made it isn't trusted: it is checked like any other.
+fn judge_made(alloc: Global, routes: Routes) -> Result<Judged, RunFault>
+    ensures judged { IfOk result (IsJudged routes) }
     ensures fault { IfErr result (λ fault. fault ≡ RunFault.Memory) }
 {
     match make(alloc, &routes) {
@@ -115,13 +115,61 @@ fn judge_routes(alloc: Global, routes: Routes) -> Result<Judgement, RunFault>
             // The routes are covered, and the pairs are those of a certificate.
             let _ = accepted.routes();
             let _ = certificate.pairs();
-            Ok(Judgement::Covered {
+            Ok(Judged::Covered {
                 accepted,
                 certificate,
             })
         }
-        Err(MakeFault::Lost(finding)) => Ok(lost(alloc, &routes, &finding)?),
+        Err(MakeFault::Lost(finding)) => Ok(Judged::Lost { routes, finding }),
         Err(MakeFault::Memory) => Err(RunFault::Memory),
+    }
+}
+
+/// What is found of routes by the certificate that the text says.
+fn judge_said(alloc: Global, routes: Routes, text: &[u8]) -> Result<Judged, RunFault>
+    ensures judged { IfOk result (IsJudgedBy routes text.now) }
+    ensures fault { IfErr result (λ fault. IsRefusedBy routes text.now fault) }
+{
+    let certificate = read_certificate(alloc, text)?;
+    match check(alloc, routes, &certificate) {
+        Ok(accepted) => {
+            // The routes are covered, and the pairs are those of a certificate.
+            let _ = accepted.routes();
+            let _ = certificate.pairs();
+            Ok(Judged::Covered {
+                accepted,
+                certificate,
+            })
+        }
+        Err(fault) => Err(refused(fault)),
+    }
+}
+
+/// What is found of routes, with what shows it: by the certificate whose text is given, or else by one made here.
+pub fn judge(alloc: Global, routes: Routes, certificate: Option<&[u8]>) -> Result<Judged, RunFault>
+    ensures judged { IfOk result (IsJudgedFor routes (option_map (λ given. given.now) certificate.entry)) }
+    ensures fault { IfErr result (λ fault. IsRefusedFor routes (option_map (λ given. given.now) certificate.entry) fault) }
+{
+    match certificate {
+        None => judge_made(alloc, routes),
+        Some(text) => judge_said(alloc, routes, text),
+    }
+}
+
+/// What is found of routes, with the text of what is lost.
+fn judge_routes(alloc: Global, routes: Routes) -> Result<Judgement, RunFault>
+    ensures judged { IfOk result (IsJudgement routes) }
+    ensures fault { IfErr result (λ fault. fault ≡ RunFault.Memory) }
+{
+    match judge_made(alloc, routes)? {
+        Judged::Covered {
+            accepted,
+            certificate,
+        } => Ok(Judgement::Covered {
+            accepted,
+            certificate,
+        }),
+        Judged::Lost { routes, finding } => Ok(lost(alloc, &routes, &finding)?),
     }
 }
 

@@ -1,0 +1,4 @@
+pub mod WholeInput
+pub mod RoutesInTurn
+pub mod Verdicts
+pub mod Marking
