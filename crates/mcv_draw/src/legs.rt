@@ -42,7 +42,7 @@ impl Legs {
     fn at(&self, number: usize) -> Option<&Position>
         ensures { option_map (λ leg. leg.now) result ≡ slice_get self.now.positions.items number }
     {
-        self.positions.get(number)
+        self.positions.as_slice().get(number)
     }
 
     /// The first of the legs that doesn't come before a position.

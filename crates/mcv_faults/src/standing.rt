@@ -49,7 +49,7 @@ fn text_of(alloc: Global, value: &Located, bytes: &[u8]) -> Result<Option<String
         return Ok(None);
     }
     match Value::from_slice(alloc, bytes) {
-        Ok(read) => copied(alloc, read.as_str()),
+        Ok(parsed) => copied(alloc, parsed.as_str()),
         Err(fault) => {
             if fault.is_memory() {
                 return Err(AllocError);
