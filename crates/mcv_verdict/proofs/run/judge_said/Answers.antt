@@ -1,9 +1,11 @@
-use Rattle.std.proofs.Common.{sym, subst}
+use Rattle.std.proofs.Common.{subst, sym}
 use Rattle.std.proofs.lemmas.Result.{err_from_is_err_and}
-use Rattle.mcv_verdict.specs.Fault.{IsRefusedBy}
+use Rattle.mcv_input.specs.declared.fault.RunFault.{RunFault}
 use Rattle.mcv_route.specs.Routes.{RoutesValue}
 use Rattle.mcv_symbolic.specs.CoveredRoutes.{AreCovered}
-use Rattle.mcv_input.specs.declared.fault.RunFault.{RunFault}
+use Rattle.mcv_verdict.specs.Fault.{IsRefusedBy}
+use Rattle.mcv_verdict.specs.Verdict.{IsJudgedBy}
+use Rattle.mcv_verdict.specs.declared.verdict.Judged.{Judged}
 use Rattle.mcv_verdict.proofs.PartFaults.{check_refused_so, text_refused_so}
 use Rattle.mcv_verdict.proofs.run.judge_said.Goals as goal
 
@@ -20,12 +22,13 @@ returns-clause-fault c =
 
 pub returns-in-Ok-clause-judged : goal.returns-in-Ok-clause-judged
 returns-in-Ok-clause-judged c =
-    let same = c.in-Ok.ensures.accepted.0 in (
+    let same = c.in-Ok.ensures.accepted.0 in
+    subst (λ (found : Judged). IsJudgedBy c.args.routes c.args.text.now found) (sym c.covered_by.ensures.found) (
       same,
       c.in_ok-certificate.ensures.read,
       record {
-        covered = subst (λ (r : RoutesValue). AreCovered r) same c.routes.ensures.covered;
+        covered = subst (λ (r : RoutesValue). AreCovered r) same c.covered_by.ensures.covered;
         justified = c.in-Ok.ensures.accepted.1;
-        certificate = c.pairs.ensures.sound;
+        certificate = c.covered_by.ensures.certificate;
       },
     )
