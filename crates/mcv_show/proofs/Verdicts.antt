@@ -1,10 +1,13 @@
 -- What is shown of routes, by what was found of them.
-use Rattle.std.proofs.Common.{◌≡◌, ◌∙◌, ◌++◌, ℕ, Bool, true, false, List, Option, None, Some, ap, length, refl, subst, sym}
+use Rattle.std.proofs.Common.{◌≡◌, ◌∙◌, ◌++◌, ◌||◌, ℕ, Bool, not, true, false, List, [], Option, None, Some, ap, length, refl, subst, sym, true≢false}
 use Rattle.std.specs.List.{All}
+use Rattle.std.proofs.lemmas.List.{append-nil}
 use Rattle.serde_json.specs.Data.{Data}
 use Rattle.mcv_cert.specs.Pair.{CertificateValue}
 use Rattle.mcv_certify.specs.PickedReasons.{IsPickedOf}
+use Rattle.mcv_draw.specs.Dot.{dot}
 use Rattle.mcv_draw.specs.Element.{ElementValue}
+use Rattle.mcv_draw.specs.Svg.{svg}
 use Rattle.mcv_explain.specs.Explanation.{explanation}
 use Rattle.mcv_explain.specs.Scene.{SceneValue}
 use Rattle.mcv_input.specs.declared.fault.RunFault.{RunFault}
@@ -14,11 +17,11 @@ use Rattle.mcv_report.specs.FindingReport.{lost_report}
 use Rattle.mcv_report.specs.Json.{IsJsonOf}
 use Rattle.mcv_route.specs.Eras.{IsBreakTable, breaks_of}
 use Rattle.mcv_route.specs.Routes.{RoutesValue}
-use Rattle.mcv_show.specs.Drawing.{AreElementsOf, IsDrawnOf, IsFoundIn, IsPictureOf}
-use Rattle.mcv_show.specs.Shown.{IsCoveredText, IsLostText, IsShownOf, covered_text, if_explained, is_made, scene}
+use Rattle.mcv_show.specs.Drawing.{AreElementsOf, IsDrawnOf, IsFoundIn, IsPictureOf, note_lines}
+use Rattle.mcv_show.specs.Shown.{IsCoveredText, IsLostText, IsShownOf, IsShownOn, IsVerdictAs, IsVerdictIf, covered_text, if_explained, if_made, is_made, is_plain, scene}
 use Rattle.mcv_verdict.specs.Fault.{IsRefusedFor}
 use Rattle.mcv_verdict.specs.Text.{covered_line}
-use Rattle.mcv_verdict.specs.Verdict.{AreCoveredBy, IsJudgedFor, IsLossBy}
+use Rattle.mcv_verdict.specs.Verdict.{AreCoveredBy, IsJudgedFor, IsLossBy, IsVerdictOn}
 use Rattle.mcv_verdict.specs.declared.verdict.Judged.{Judged}
 use Rattle.mcv_verdict.specs.declared.verdict.Judged.TheVariants as judged
 use Rattle.mcv_verdict.specs.declared.verdict.Verdict.{Verdict}
@@ -33,15 +36,48 @@ pub memory_refuses : (r : RoutesValue) (given : Option (List ℕ)) → IsRefused
 memory_refuses r None = refl
 memory_refuses r (Some certificate) = tt
 
+-- ---- by the options
+
+pub plain_as : (o : CheckOptions) (input : List ℕ) (given : Option (List ℕ)) (v : Verdict) (text : List ℕ) → is_plain o ≡ true → IsVerdictOn input o.window.seconds given v text
+    → IsVerdictAs o input given v text
+plain_as o input given v text is on = subst (λ (b : Bool). IsVerdictIf b o input given v text) (sym is) on
+
+pub shown_as : (o : CheckOptions) (input : List ℕ) (given : Option (List ℕ)) (v : Verdict) (text : List ℕ) → is_plain o ≡ false → IsShownOn o input given v text
+    → IsVerdictAs o input given v text
+shown_as o input given v text is on = subst (λ (b : Bool). IsVerdictIf b o input given v text) (sym is) on
+
+-- where a report is asked for, the verdict's own text isn't
+pub plain_is_no_report : (explain json : Bool) → not (explain || json) ≡ true → json ≡ true → ⊥
+plain_is_no_report true json is on = true≢false (sym is)
+plain_is_no_report false true is on = true≢false (sym is)
+plain_is_no_report false false is on = true≢false (sym on)
+
+-- what is added where it is wanted
+pub is_explained : (b : Bool) (old text : List ℕ) → b ≡ true → old ++ text ≡ old ++ if_explained b text
+is_explained true old text is = refl
+is_explained false old text is = absurd (true≢false (sym is))
+
+pub is_unexplained : (b : Bool) (old text : List ℕ) → b ≡ false → old ≡ old ++ if_explained b text
+is_unexplained true old text is = absurd (true≢false is)
+is_unexplained false old text is = sym (append-nil old)
+
+pub is_added : (b : Bool) (old text : List ℕ) → b ≡ true → old ++ text ≡ old ++ if_made b text
+is_added true old text is = refl
+is_added false old text is = absurd (true≢false (sym is))
+
+pub is_left_out : (b : Bool) (old text : List ℕ) → b ≡ false → old ≡ old ++ if_made b text
+is_left_out true old text is = absurd (true≢false is)
+is_left_out false old text is = sym (append-nil old)
+
 -- ---- what is lost
 
 pub lost_as_report : (json explain : Bool) (s : SceneValue) (table text : List ℕ) → json ≡ true → IsJsonOf text (lost_report s table) → IsLostText json explain s table text
 lost_as_report true explain s table text is said = said
-lost_as_report false explain s table text is said = absurd (cc)
+lost_as_report false explain s table text is said = absurd (true≢false (sym is))
 
 pub lost_as_text : (json explain : Bool) (s : SceneValue) (table text : List ℕ) → json ≡ false
     → text ≡ finding_text s.routes s.finding ++ if_explained explain (explanation s table) → IsLostText json explain s table text
-lost_as_text true explain s table text is said = absurd (cc)
+lost_as_text true explain s table text is said = absurd (true≢false is)
 lost_as_text false explain s table text is said = said
 
 pub shown_lost : (o : CheckOptions) (d : Data) (r routes : RoutesValue) (given : Option (List ℕ)) (f : Finding) (v : Verdict) (table text : List ℕ)
@@ -60,37 +96,49 @@ shown_lost o d r routes (Some certificate) f v table text found is breaks said =
 pub covered_as_report : (json explain made : Bool) (d : Data) (c : CertificateValue) (table text : List ℕ) → json ≡ true → IsJsonOf text (covered_report d c)
     → IsCoveredText json explain made d c table text
 covered_as_report true explain made d c table text is said = said
-covered_as_report false explain made d c table text is said = absurd (cc)
+covered_as_report false explain made d c table text is said = absurd (true≢false (sym is))
 
 pub covered_as_text : (json explain made : Bool) (d : Data) (c : CertificateValue) (table text : List ℕ) → json ≡ false → text ≡ covered_text explain made c table
     → IsCoveredText json explain made d c table text
-covered_as_text true explain made d c table text is said = absurd (cc)
+covered_as_text true explain made d c table text is said = absurd (true≢false is)
 covered_as_text false explain made d c table text is said = said
 
-pub shown_covered : (o : CheckOptions) (d : Data) (r routes : RoutesValue) (given : Option (List ℕ)) (c : CertificateValue) (v : Verdict) (table text : List ℕ)
-    → IsJudgedFor r given (judged.Covered routes c) → v ≡ Covered (length c.pairs) → IsBreakTable (breaks_of routes) table
-    → IsCoveredText o.json o.explain (is_made given) d c table text → IsShownOf o d r given v text
-shown_covered o d r routes None c v table text found is breaks said =
+pub shown_covered : (o : CheckOptions) (d : Data) (r routes : RoutesValue) (given : Option (List ℕ)) (made : Bool) (c : CertificateValue) (v : Verdict) (table text : List ℕ)
+    → IsJudgedFor r given (judged.Covered routes c) → made ≡ is_made given → v ≡ Covered (length c.pairs) → IsBreakTable (breaks_of routes) table
+    → IsCoveredText o.json o.explain made d c table text → IsShownOf o d r given v text
+shown_covered o d r routes None made c v table text found by is breaks said =
+    let shown : IsCoveredText o.json o.explain true d c table text = subst (λ (m : Bool). IsCoveredText o.json o.explain m d c table text) by said in
     subst (λ (w : Verdict). IsShownOf o d r None w text) (sym is)
-    (table, subst (λ (x : RoutesValue). IsBreakTable (breaks_of x) table) found.0 breaks, (c, found.1, found.2, refl, said))
-shown_covered o d r routes (Some certificate) c v table text found is breaks said =
+    (table, subst (λ (x : RoutesValue). IsBreakTable (breaks_of x) table) found.0 breaks, (c, found.1, found.2, refl, shown))
+shown_covered o d r routes (Some certificate) made c v table text found by is breaks said =
+    let shown : IsCoveredText o.json o.explain false d c table text = subst (λ (m : Bool). IsCoveredText o.json o.explain m d c table text) by said in
     subst (λ (w : Verdict). IsShownOf o d r (Some certificate) w text) (sym is)
-    (table, subst (λ (x : RoutesValue). IsBreakTable (breaks_of x) table) found.0 breaks, (c, found.2, found.1, refl, said))
+    (table, subst (λ (x : RoutesValue). IsBreakTable (breaks_of x) table) found.0 breaks, (c, found.2, found.1, refl, shown))
 
 -- ---- pictures
 
-pub drawn_covered : (dot : Bool) (r routes : RoutesValue) (c : CertificateValue) (n : ℕ) (said text : List ℕ) (es : List ElementValue) → routes ≡ r → AreCoveredBy r c
-    → All (IsPickedOf r) c.pairs → n ≡ length c.pairs → said ≡ covered_line n → AreElementsOf routes es → IsPictureOf dot es said text → IsDrawnOf dot r (Covered n) text
-drawn_covered dot r routes c n said text es same by picked count is of picture =
-    (c, by, picked, count, es, subst (λ (x : RoutesValue). AreElementsOf x es) same of, subst (λ (t : List ℕ). IsPictureOf dot es t text) is picture)
+pub as_graph : (is_dot : Bool) (es : List ElementValue) (said text : List ℕ) → is_dot ≡ true → text ≡ dot es → IsPictureOf is_dot es said text
+as_graph true es said text is of = of
+as_graph false es said text is of = absurd (true≢false (sym is))
 
-pub drawn_lost : (dot : Bool) (r routes : RoutesValue) (f : FindingValue) (said text : List ℕ) (es : List ElementValue) → routes ≡ r → IsLossBy r f → said ≡ finding_text routes f
-    → AreElementsOf routes es → All (IsFoundIn f) es → IsPictureOf dot es said text → IsDrawnOf dot r Lost text
-drawn_lost dot r routes f said text es same loss is of marked picture = (
-  f,
-  loss,
-  es,
-  subst (λ (x : RoutesValue). AreElementsOf x es) same of,
-  marked,
-  subst (λ (t : List ℕ). IsPictureOf dot es t text) (is ∙ ap (λ (x : RoutesValue). finding_text x f) same) picture,
-)
+pub as_svg : (is_dot : Bool) (es : List ElementValue) (rows : ℕ) (said text : List ℕ) → is_dot ≡ false → text ≡ svg es rows (note_lines said) → IsPictureOf is_dot es said text
+as_svg true es rows said text is of = absurd (true≢false is)
+as_svg false es rows said text is of = (rows, of)
+
+pub drawn_covered : (dot : Bool) (r routes : RoutesValue) (c : CertificateValue) (v : Verdict) (text : List ℕ) → IsJudgedFor r None (judged.Covered routes c) → v ≡ Covered (length c.pairs)
+    → (es : List ElementValue) × AreElementsOf routes es × IsPictureOf dot es (covered_line (length c.pairs)) text → IsDrawnOf dot r v text
+drawn_covered dot r routes c v text found is drawn =
+    subst (λ (w : Verdict). IsDrawnOf dot r w text) (sym is)
+    (c, found.1, found.2, refl, drawn.0, subst (λ (x : RoutesValue). AreElementsOf x drawn.0) found.0 drawn.1, drawn.2)
+
+pub drawn_lost : (dot : Bool) (r routes : RoutesValue) (f : Finding) (v : Verdict) (text : List ℕ) → IsJudgedFor r None (judged.Lost routes f) → v ≡ Lost
+    → (es : List ElementValue) × AreElementsOf routes es × All (IsFoundIn (finding_of f)) es × IsPictureOf dot es (finding_text routes (finding_of f)) text → IsDrawnOf dot r v text
+drawn_lost dot r routes f v text found is drawn =
+    subst (λ (w : Verdict). IsDrawnOf dot r w text) (sym is) (
+      finding_of f,
+      found.1,
+      drawn.0,
+      subst (λ (x : RoutesValue). AreElementsOf x drawn.0) found.0 drawn.1,
+      drawn.2,
+      subst (λ (x : RoutesValue). IsPictureOf dot drawn.0 (finding_text x (finding_of f)) text) found.0 drawn.3,
+    )

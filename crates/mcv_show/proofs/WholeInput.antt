@@ -87,3 +87,8 @@ reported_fault input window certificate fault found (inr (inr device)) is = subs
 pub not_outside : (fault : RunFault) → IsOutside fault → fault ≢ Memory → fault ≢ Device → ⊥
 not_outside fault (inl memory) no_memory no_device = no_memory memory
 not_outside fault (inr device) no_memory no_device = no_device device
+
+-- the text reports the fault that is told, where no device failed
+pub reported_text : (input : List ℕ) (fault found : RunFault) (text : List ℕ) → (found ≡ fault) ⊎ (found ≡ Device) → found ≢ Device → IsFaultText input fault text → IsFaultText input found text
+reported_text input fault found text (inl same) no_device said = subst (λ (f : RunFault). IsFaultText input f text) (sym same) said
+reported_text input fault found text (inr device) no_device said = absurd (no_device device)

@@ -1,9 +1,9 @@
 //! The report on a fault.
 
-ghost use Rattle.std.specs.Prelude.{IfOk};
-ghost use Rattle.mcv_show.specs.Shown.{IsFaultText};
+ghost use Rattle.std.specs.Prelude.{IfOk, option_map};
+ghost use Rattle.mcv_show.specs.Shown.{IsFaultText, IsPlaceOf};
 
-use mcv_faults::standing_of;
+use mcv_faults::{TextPlace, standing_of};
 use mcv_input::RunFault;
 use mcv_names::ConfigFault;
 use mcv_report::{pair_refused_text, refused_text, text_refused_text, window_refused_text};
@@ -22,9 +22,10 @@ pub(crate) fn fault_text(
         RunFault::CertificateText(fault) => text_refused_text(alloc, *fault),
         RunFault::Certificate(fault) => pair_refused_text(alloc, *fault),
         RunFault::Window => window_refused_text(alloc),
-        RunFault::Line | RunFault::NoRoute | RunFault::Memory | RunFault::Device => {
-            Ok(Vec::new(alloc))
-        }
+        RunFault::Line => Ok(Vec::new(alloc)),
+        RunFault::NoRoute => Ok(Vec::new(alloc)),
+        RunFault::Memory => Ok(Vec::new(alloc)),
+        RunFault::Device => Ok(Vec::new(alloc)),
     }
 }
 
@@ -36,8 +37,20 @@ fn config_fault_text(
 ) -> Result<Vec<u8>, AllocError>
     ensures { IfOk result (λ text. IsFaultText input.now (RunFault.Config fault.now) text.items) }
 {
+    let place = place_of(alloc, input, fault)?;
+    refused_text(alloc, fault, place)
+}
+
+/// Where the value at fault stands, where that is known.
+fn place_of(
+    alloc: Global,
+    input: &[u8],
+    fault: &ConfigFault,
+) -> Result<Option<TextPlace>, AllocError>
+    ensures { IfOk result (λ place. IsPlaceOf input.now (option_map (λ p. (p.line, p.column)) place)) }
+{
     match standing_of(alloc, input, fault.path().as_bytes())? {
-        Some(standing) => refused_text(alloc, fault, Some(standing.place)),
-        None => refused_text(alloc, fault, None),
+        Some(standing) => Ok(Some(standing.place)),
+        None => Ok(None),
     }
 }

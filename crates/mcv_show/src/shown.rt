@@ -11,12 +11,13 @@ ghost use Rattle.mcv_input.specs.Fault.{IsOutside};
 ghost use Rattle.mcv_report.specs.CertificateReport.{covered_report};
 ghost use Rattle.mcv_report.specs.Json.{IsJsonOf};
 ghost use Rattle.mcv_route.specs.Eras.{IsBreakTable, breaks_of};
-ghost use Rattle.mcv_show.specs.Shown.{IsCoveredText, IsFaultText, IsLostText, IsShownOf, IsShownOn, IsVerdictAs, covered_text, if_explained, if_made, is_made};
+ghost use Rattle.mcv_show.specs.Shown.{IsCoveredText, IsFaultText, IsLostText, IsShownOf, IsShownOn, IsVerdictAs, covered_text, if_explained, if_made, is_made, is_plain};
 ghost use Rattle.mcv_verdict.specs.Fault.{IsRefusedFor, IsRunFault};
 
 use crate::fault::fault_text;
 use crate::input::{Configuration, configuration_of, read_text};
 use mcv_cert::Certificate;
+use mcv_check::Accepted;
 use mcv_explain::{Scene, push_compared, push_explanation};
 use mcv_input::{RunFault, write_text};
 use mcv_report as report;
@@ -53,11 +54,17 @@ pub fn run_check_as<R: Read, W: Write>(
     ensures reported { options.json ≡ true → IfErr result (λ fault. fault ≢ RunFault.Memory → fault ≢ RunFault.Device → (text : List ℕ)
         × IfSome (R.remaining reader.old) (λ input. IsFaultText input fault text) × Appends (W.contents writer.old) (W.contents writer.new) text) }
 {
-    if options.explain || options.json {
-        run_shown(alloc, reader, writer, certificate, options)
-    } else {
-        run_check(alloc, reader, writer, certificate, options.window.seconds)
+    if is_plain(options) {
+        return run_check(alloc, reader, writer, certificate, options.window.seconds);
     }
+    run_shown(alloc, reader, writer, certificate, options)
+}
+
+/// Whether the verdict's own text is asked for.
+fn is_plain(options: CheckOptions) -> bool
+    ensures { result ≡ is_plain options }
+{
+    !(options.explain || options.json)
 }
 
 /// The same where an explanation or the report is asked for.
@@ -125,13 +132,30 @@ fn report_fault<W: Write>(
     ensures reported { is_reported ≡ true → result ≢ RunFault.Memory → result ≢ RunFault.Device → (text : List ℕ)
         × IsFaultText input.now result text × Appends (W.contents writer.old) (W.contents writer.new) text }
 {
-    if !is_reported {
-        return fault;
+    if is_reported {
+        return reported(alloc, writer, input, fault);
     }
-    let Ok(text) = fault_text(alloc, input, &fault) else {
-        return RunFault::Memory;
-    };
-    match write_text(writer, text.as_slice()) {
+    fault
+}
+
+/// Writes the report on a fault; the answer is the fault, or the one that came in writing it.
+fn reported<W: Write>(alloc: Global, writer: &mut W, input: &[u8], fault: RunFault) -> RunFault
+    ensures fault { (result ≡ fault) ⊎ IsOutside result }
+    ensures reported { result ≢ RunFault.Memory → result ≢ RunFault.Device → (text : List ℕ)
+        × IsFaultText input.now result text × Appends (W.contents writer.old) (W.contents writer.new) text }
+{
+    match fault_text(alloc, input, &fault) {
+        Ok(text) => write_report(writer, text.as_slice(), fault),
+        Err(_) => RunFault::Memory,
+    }
+}
+
+/// Writes the text of the report on a fault; the answer is the fault, or the device's.
+fn write_report<W: Write>(writer: &mut W, text: &[u8], fault: RunFault) -> RunFault
+    ensures fault { (result ≡ fault) ⊎ (result ≡ RunFault.Device) }
+    ensures written { result ≢ RunFault.Device → Appends (W.contents writer.old) (W.contents writer.new) text.now }
+{
+    match write_text(writer, text) {
         Ok(()) => fault,
         Err(failed) => failed,
     }
@@ -147,9 +171,15 @@ fn shown(
     ensures output { IfOk result (λ o. IsShownOn options input.now (option_map (λ given. given.now) certificate.entry) o.verdict o.text.items) }
     ensures fault { IfErr result (IsRunFault input.now options.window.seconds (option_map (λ given. given.now) certificate.entry)) }
 {
-    let Configuration { document, routes } = configuration_of(alloc, input)?;
-    let routes = routes.within(options.window.seconds);
-    shown_of(alloc, &document, routes, certificate, options)
+    let configuration = configuration_of(alloc, input)?;
+    let Configuration { document, routes } = configuration;
+    shown_of(
+        alloc,
+        &document,
+        routes.within(options.window.seconds),
+        certificate,
+        options,
+    )
 }
 
 /// The verdict on routes, as the options ask.
@@ -168,7 +198,7 @@ fn shown_of(
         Judged::Covered {
             accepted,
             certificate: found,
-        } => Ok(covered_output(alloc, document, accepted.routes(), &found, is_made, options)?),
+        } => Ok(covered_output(alloc, document, &accepted, &found, is_made, options)?),
         Judged::Lost { routes, finding } => {
             let scene = Scene {
                 document,
@@ -184,7 +214,10 @@ fn shown_of(
 fn is_made(certificate: Option<&[u8]>) -> bool
     ensures { result ≡ is_made (option_map (λ given. given.now) certificate.entry) }
 {
-    certificate.is_none()
+    match certificate {
+        Some(_) => false,
+        None => true,
+    }
 }
 
 // ---- what is lost
@@ -209,7 +242,8 @@ fn lost_text(alloc: Global, scene: &Scene<'_>, options: CheckOptions) -> Result<
     ensures { IfOk result (λ text. (table : List ℕ) × IsBreakTable (breaks_of scene.now.routes.now) table
         × IsLostText options.json options.explain (scene_of scene.now) table text.items) }
 {
-    if options.json {
+    let is_json = options.json;
+    if is_json {
         return report::lost_text(alloc, scene);
     }
     let mut text = finding_text(alloc, scene.finding, scene.routes)?;
@@ -237,29 +271,45 @@ fn push_if_explained(
 
 // ---- what is covered
 
-/// The verdict that routes are covered by a certificate, and its text.
+/// The verdict that the checker accepted routes by a certificate, and its text.
 fn covered_output(
     alloc: Global,
     document: &Value,
-    routes: &Routes,
+    accepted: &Accepted,
     certificate: &Certificate,
     is_made: bool,
     options: CheckOptions,
 ) -> Result<Output, AllocError>
     ensures verdict { IfOk result (λ o. o.verdict ≡ Verdict.Covered (length certificate.now.pairs)) }
-    ensures text { IfOk result (λ o. (table : List ℕ) × IsBreakTable (breaks_of routes.now) table
+    ensures text { IfOk result (λ o. (table : List ℕ) × IsBreakTable (breaks_of accepted.now) table
         × IsCoveredText options.json options.explain is_made (view document.now) certificate.now table o.text.items) }
 {
     let pairs = certificate.len();
-    let text = if options.json {
-        covered_report(alloc, document, routes, certificate)?
-    } else {
-        covered_text(alloc, routes, certificate, is_made, options.explain)?
-    };
+    let text = covered_text(alloc, document, accepted, certificate, is_made, options)?;
     Ok(Output {
         verdict: Verdict::Covered(pairs as u64),
         text,
     })
+}
+
+/// The text on what is covered, as the options ask.
+fn covered_text(
+    alloc: Global,
+    document: &Value,
+    accepted: &Accepted,
+    certificate: &Certificate,
+    is_made: bool,
+    options: CheckOptions,
+) -> Result<Vec<u8>, AllocError>
+    ensures { IfOk result (λ text. (table : List ℕ) × IsBreakTable (breaks_of accepted.now) table
+        × IsCoveredText options.json options.explain is_made (view document.now) certificate.now table text.items) }
+{
+    let is_json = options.json;
+    let routes = accepted.routes();
+    if is_json {
+        return covered_report(alloc, document, routes, certificate);
+    }
+    covered_lines(alloc, routes, certificate, is_made, options.explain)
 }
 
 /// The report on what is covered.
@@ -277,9 +327,9 @@ fn covered_report(
     report::covered_text(alloc, document, certificate)
 }
 
-/// The text on what is covered; with the certificate where it was made here, and with what it compared where that is
+/// The lines on what is covered; with the certificate where it was made here, and with what it compared where that is
 /// wanted.
-fn covered_text(
+fn covered_lines(
     alloc: Global,
     routes: &Routes,
     certificate: &Certificate,
@@ -289,7 +339,8 @@ fn covered_text(
     ensures { IfOk result (λ text. (table : List ℕ) × IsBreakTable (breaks_of routes.now) table
         × (text.items ≡ covered_text is_explained is_made certificate.now table)) }
 {
-    let mut text = covered_line(alloc, certificate.len())?;
+    let pairs = certificate.len();
+    let mut text = covered_line(alloc, pairs)?;
     push_if_made(alloc, &mut text, certificate, is_made)?;
     push_if_compared(alloc, &mut text, routes, certificate, is_explained)?;
     Ok(text)
@@ -304,9 +355,19 @@ fn push_if_made(
 ) -> Result<(), AllocError>
     ensures { OnOk result (text.new.items ≡ text.old.items ++ if_made is_made (certificate_text certificate.now.window certificate.now.pairs)) }
 {
-    if !is_made {
-        return Ok(());
+    if is_made {
+        return push_certificate(alloc, text, certificate);
     }
+    Ok(())
+}
+
+fn push_certificate(
+    alloc: Global,
+    text: &mut Vec<u8>,
+    certificate: &Certificate,
+) -> Result<(), AllocError>
+    ensures { OnOk result (text.new.items ≡ text.old.items ++ certificate_text certificate.now.window certificate.now.pairs) }
+{
     let written = certificate.text(alloc)?;
     text.extend_from_slice(written.as_slice())
 }
