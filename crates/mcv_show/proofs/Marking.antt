@@ -1,38 +1,51 @@
 -- What is marked in the tree of each route is marked at its elements.
-use Rattle.std.proofs.Common.{◌≡◌, ◌∙◌, ◌≢◌, ◌==◌, ◌&&◌, ◌++◌, ℕ, true, false, List, [], Option, Some, None, ap, arith, map, sym}
-use Rattle.std.specs.Prelude.{bytes_eq}
+use Rattle.std.proofs.Common.{◌≡◌, ◌∙◌, ◌≢◌, ◌==◌, ◌&&◌, ◌++◌, ℕ, true, false, List, [], Option, Some, None, Bor, ap, arith, map, subst, sym}
+use Rattle.std.specs.Prelude.{Err, IfOk, Ok, Result, bytes_eq}
 use Rattle.std.specs.List.{All}
 use Rattle.std.proofs.lemmas.List.{map-append}
 use Rattle.std.proofs.lemmas.List.Elements.{All-append, All-map}
 use Rattle.mcv_draw.specs.Element.{ElementValue, element_of}
-use Rattle.mcv_draw.specs.Marks.{AreMarkedBy, AreSameMarks, IsMarkedBy, MarksValue, is_leaf, leads_to}
+use Rattle.mcv_cert.specs.declared.certificate.Certificate.{Certificate}
+use Rattle.mcv_draw.specs.Marks.{AreMarkedBy, AreSameMarks, IsMarkedBy, MarksValue, is_leaf, leads_to, marks_of}
+use Rattle.mcv_draw.specs.declared.marks.Marks.{Marks}
 use Rattle.mcv_draw.specs.declared.element.Element.{Element}
 use Rattle.mcv_show.specs.Drawing.{IsFoundIn, answering}
-use Rattle.mcv_show.specs.Found.{AreFoundMarks, AreMarkedFor, AreMarksFor, AreUnmarked}
+use Rattle.mcv_show.specs.Found.{AreFoundMarks, AreMarkedFor, AreMarksFor, AreOwnMarks, AreUnmarked}
 use Rattle.mcv_show.specs.declared.marks.Found.{Found}
 use Rattle.mcv_show.specs.declared.marks.Found.TheVariants as found
 use Rattle.mcv_witness.specs.Finding.{FindingValue, finding_of}
 
 -- ---- the marks of a route
 
-pub nothing_marked : (given m : MarksValue) → given.shown ≡ [] → given.lost ≡ None → AreSameMarks given m → AreUnmarked m
-nothing_marked given m none no_leaf same = record {
+pub nothing_marked : (given m : MarksValue) → AreSameMarks given m → given.shown ≡ [] → given.lost ≡ None → AreUnmarked m
+nothing_marked given m same none no_leaf = record {
   shown = λ p. sym (same.shown p) ∙ ap (λ (legs : List (List ℕ)). leads_to legs p) none;
   lost = λ p. sym (ap (λ (o : Option (List ℕ)). is_leaf o p) same.lost) ∙ ap (λ (o : Option (List ℕ)). is_leaf o p) no_leaf;
 }
 
-pub marked_elsewhere : (f : FindingValue) (number : ℕ) (m : MarksValue) → (number == f.place.spot.route) ≡ false → AreUnmarked m → AreFoundMarks f number m
-marked_elsewhere f number m other none = record {
-  shown = λ p. rw other (none.shown p);
-  lost = λ p. rw other (none.lost p);
+pub own_marks : (f : FindingValue) (given m : MarksValue) → AreSameMarks given m → given.shown ≡ answering f → given.lost ≡ Some f.place.leaf → AreOwnMarks f m
+own_marks f given m same legs leaf = record {
+  shown = λ p. sym (same.shown p) ∙ ap (λ (xs : List (List ℕ)). leads_to xs p) legs;
+  lost = λ p. sym (ap (λ (o : Option (List ℕ)). is_leaf o p) same.lost) ∙ ap (λ (o : Option (List ℕ)). is_leaf o p) leaf;
 }
 
-pub marked_here : (f : FindingValue) (number : ℕ) (given m : MarksValue) → (number == f.place.spot.route) ≡ true → given.shown ≡ answering f → given.lost ≡ Some f.place.leaf → AreSameMarks given m
-    → AreFoundMarks f number m
-marked_here f number given m here legs leaf same = record {
-  shown = λ p. rw here (sym (same.shown p) ∙ ap (λ (xs : List (List ℕ)). leads_to xs p) legs);
-  lost = λ p. rw here (sym (ap (λ (o : Option (List ℕ)). is_leaf o p) same.lost) ∙ ap (λ (o : Option (List ℕ)). is_leaf o p) leaf);
+pub marked_elsewhere : (f : FindingValue) (number : ℕ) (m : MarksValue) → (number == f.place.spot.route) ≡ false → AreUnmarked m → AreFoundMarks f number m
+marked_elsewhere f number m other none = record {
+  shown = λ p. none.shown p ∙ ap (λ b. b && leads_to (answering f) p) (sym other);
+  lost = λ p. none.lost p ∙ ap (λ b. b && bytes_eq f.place.leaf p) (sym other);
 }
+
+pub marked_here : (f : FindingValue) (number : ℕ) (m : MarksValue) → (number == f.place.spot.route) ≡ true → AreOwnMarks f m → AreFoundMarks f number m
+marked_here f number m here own = record {
+  shown = λ p. own.shown p ∙ ap (λ b. b && leads_to (answering f) p) (sym here);
+  lost = λ p. own.lost p ∙ ap (λ b. b && bytes_eq f.place.leaf p) (sym here);
+}
+
+-- of what is covered nothing is said
+pub any_marks : {E : Type 0} (r : Result Marks E) (what : Found) (number : ℕ) (certificate : Bor Certificate) → what ≡ found.Covered certificate
+    → IfOk r (λ marks. AreMarksFor what number (marks_of marks))
+any_marks (Ok marks) what number certificate is = subst (λ (w : Found). AreMarksFor w number (marks_of marks)) (sym is) tt
+any_marks (Err e) what number certificate is = tt
 
 -- ---- the elements
 

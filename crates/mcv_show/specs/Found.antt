@@ -8,6 +8,11 @@ use Rattle.mcv_show.specs.Drawing.{IsFoundIn, answering}
 use Rattle.mcv_show.specs.declared.marks.Found.{Found}
 use Rattle.mcv_show.specs.declared.marks.Found.TheVariants as found
 
+-- in the tree of a finding's own route
+pub record AreOwnMarks (f : FindingValue) (m : MarksValue) : Type 0 where
+  pub shown : (p : List ℕ) → leads_to m.shown p ≡ leads_to (answering f) p
+  pub lost : (p : List ℕ) → is_leaf m.lost p ≡ bytes_eq f.place.leaf p
+
 -- in the tree of the route of a number, by a finding
 pub record AreFoundMarks (f : FindingValue) (number : ℕ) (m : MarksValue) : Type 0 where
   pub shown : (p : List ℕ) → leads_to m.shown p ≡ (number == f.place.spot.route && leads_to (answering f) p)

@@ -1,21 +1,26 @@
 //! The picture of a configuration's routes, with what the verdict marks.
 
-ghost use Rattle.std.specs.Prelude.{◌≡◌, ◌≢◌, ◌==◌, ◌++◌, ℕ, List, None, IfErr, IfOk, IfSome, OnOk, map};
+ghost use Rattle.std.specs.Prelude.{◌≡◌, ◌≢◌, ◌==◌, ◌++◌, ℕ, List, None, IfErr, IfOk, IfSome, OnOk, length, map};
 ghost use Rattle.std.specs.Io.KnownBytes.{Appends};
-ghost use Rattle.std.specs.List.{flat_map, slice_split};
+ghost use Rattle.std.specs.List.{All, flat_map, slice_split};
 ghost use Rattle.mcv_draw.specs.Element.{ElementValue, element_of};
 ghost use Rattle.mcv_draw.specs.Svg.{svg};
-ghost use Rattle.mcv_show.specs.Drawing.{AreElementsOf, IsDrawnOf, IsDrawnOn, IsPictureOf, if_line, note_lines};
+ghost use Rattle.mcv_show.specs.Drawing.{AreElementsOf, IsDrawnOf, IsDrawnOn, IsFoundIn, IsPictureOf, if_line, note_lines};
 ghost use Rattle.mcv_show.specs.Found.{AreMarkedFor};
 ghost use Rattle.mcv_verdict.specs.Fault.{IsRunFault};
+ghost use Rattle.mcv_verdict.specs.Text.{covered_line};
+ghost use Rattle.mcv_witness.specs.Finding.{finding_of};
+ghost use Rattle.mcv_witness.specs.Text.{finding_text};
 
 use crate::input::{Configuration, configuration_of, read_text};
 use crate::marks::{Found, marks_of};
+use mcv_cert::Certificate;
+use mcv_check::Accepted;
 use mcv_draw::{Drawing, Element, dot, elements, svg};
 use mcv_input::{RunFault, write_text};
 use mcv_route::Routes;
 use mcv_verdict::{Judged, Verdict, covered_line, judge};
-use mcv_witness::finding_text;
+use mcv_witness::{Finding, finding_text};
 use std::alloc::{AllocError, Global};
 use std::io::{Read, Write};
 
@@ -60,10 +65,11 @@ fn drawn_input(alloc: Global, input: &[u8], is_dot: bool) -> Result<Drawn, RunFa
     ensures drawn { IfOk result (λ drawn. IsDrawnOn is_dot input.now drawn.verdict drawn.text.items) }
     ensures fault { IfErr result (IsRunFault input.now 0 None) }
 {
+    let configuration = configuration_of(alloc, input)?;
     let Configuration {
         document: _,
         routes,
-    } = configuration_of(alloc, input)?;
+    } = configuration;
     drawn_routes(alloc, routes, is_dot)
 }
 
@@ -76,26 +82,50 @@ fn drawn_routes(alloc: Global, routes: Routes, is_dot: bool) -> Result<Drawn, Ru
         Judged::Covered {
             accepted,
             certificate,
-        } => {
-            let pairs = certificate.len();
-            let said = covered_line(alloc, pairs)?;
-            let found = Found::Covered(&certificate);
-            let text = picture_text(alloc, accepted.routes(), &found, said.as_slice(), is_dot)?;
-            Ok(Drawn {
-                verdict: Verdict::Covered(pairs as u64),
-                text,
-            })
-        }
-        Judged::Lost { routes, finding } => {
-            let said = finding_text(alloc, &finding, &routes)?;
-            let found = Found::Lost(&finding);
-            let text = picture_text(alloc, &routes, &found, said.as_slice(), is_dot)?;
-            Ok(Drawn {
-                verdict: Verdict::Lost,
-                text,
-            })
-        }
+        } => Ok(covered_drawing(alloc, &accepted, &certificate, is_dot)?),
+        Judged::Lost { routes, finding } => Ok(lost_drawing(alloc, &routes, &finding, is_dot)?),
     }
+}
+
+/// The picture of routes that the checker accepted by a certificate.
+fn covered_drawing(
+    alloc: Global,
+    accepted: &Accepted,
+    certificate: &Certificate,
+    is_dot: bool,
+) -> Result<Drawn, AllocError>
+    ensures verdict { IfOk result (λ drawn. drawn.verdict ≡ Verdict.Covered (length certificate.now.pairs)) }
+    ensures text { IfOk result (λ drawn. (es : List ElementValue) × AreElementsOf accepted.now es
+        × IsPictureOf is_dot es (covered_line (length certificate.now.pairs)) drawn.text.items) }
+{
+    let pairs = certificate.len();
+    let said = covered_line(alloc, pairs)?;
+    let found = Found::Covered(certificate);
+    let text = picture_text(alloc, accepted.routes(), &found, said.as_slice(), is_dot)?;
+    Ok(Drawn {
+        verdict: Verdict::Covered(pairs as u64),
+        text,
+    })
+}
+
+/// The picture of routes that can lose a delete, as a finding shows.
+fn lost_drawing(
+    alloc: Global,
+    routes: &Routes,
+    finding: &Finding,
+    is_dot: bool,
+) -> Result<Drawn, AllocError>
+    ensures verdict { IfOk result (λ drawn. drawn.verdict ≡ Verdict.Lost) }
+    ensures text { IfOk result (λ drawn. (es : List ElementValue) × AreElementsOf routes.now es × All (IsFoundIn (finding_of finding.now)) es
+        × IsPictureOf is_dot es (finding_text routes.now (finding_of finding.now)) drawn.text.items) }
+{
+    let said = finding_text(alloc, finding, routes)?;
+    let found = Found::Lost(finding);
+    let text = picture_text(alloc, routes, &found, said.as_slice(), is_dot)?;
+    Ok(Drawn {
+        verdict: Verdict::Lost,
+        text,
+    })
 }
 
 /// The text of the picture of routes, with what was found marked in them and what is said below.
@@ -174,9 +204,11 @@ fn parts_of(alloc: Global, text: &[u8]) -> Result<Vec<&[u8]>, AllocError>
 fn push_line(alloc: Global, lines: &mut Vec<Vec<u8>>, line: &[u8]) -> Result<(), AllocError>
     ensures { OnOk result (map (λ l. l.items) lines.new.items ≡ map (λ l. l.items) lines.old.items ++ if_line line.now) }
 {
-    if !line.is_empty() {
-        lines.push(Vec::from_slice(alloc, line)?)?;
+    if line.is_empty() {
+        return Ok(());
     }
+    let copied = Vec::from_slice(alloc, line)?;
+    lines.push(copied)?;
     Ok(())
 }
 

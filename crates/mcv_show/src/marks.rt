@@ -1,9 +1,9 @@
 //! What a verdict marks in the trees of the routes.
 
-ghost use Rattle.std.specs.Prelude.{◌≡◌, ◌++◌, IfOk, OnOk, map};
+ghost use Rattle.std.specs.Prelude.{◌≡◌, ◌==◌, ◌++◌, IfOk, OnOk, map};
 ghost use Rattle.mcv_draw.specs.Marks.{marks_of};
 ghost use Rattle.mcv_show.specs.Drawing.{answering};
-ghost use Rattle.mcv_show.specs.Found.{AreFoundMarks, AreMarksFor, AreUnmarked};
+ghost use Rattle.mcv_show.specs.Found.{AreFoundMarks, AreMarksFor, AreOwnMarks, AreUnmarked};
 ghost use Rattle.mcv_witness.specs.Finding.{finding_of, outcomes_of};
 
 use mcv_base::Position;
@@ -74,8 +74,7 @@ fn push_legs(alloc: Global, legs: &mut Vec<Position>, reason: &Reason) -> Result
 
 // ---- what is lost
 
-/// What a finding marks in the tree of a route: of its own the legs that answer, the leaf whose server is lost, and what
-/// deletes and gets of its keys reach; of another nothing.
+/// What a finding marks in the tree of a route: in others than its own, nothing.
 fn lost(
     alloc: Global,
     routes: &Routes,
@@ -84,19 +83,38 @@ fn lost(
 ) -> Result<Marks, AllocError>
     ensures { IfOk result (λ marks. AreFoundMarks (finding_of finding.now) number (marks_of marks)) }
 {
-    if number != finding.place.route {
-        return Ok(unmarked(alloc));
+    if is_route_of(finding, number) {
+        return found_marks(alloc, routes, finding);
     }
+    Ok(unmarked(alloc))
+}
+
+/// Whether a finding is of the route of this number.
+fn is_route_of(finding: &Finding, number: usize) -> bool
+    ensures { result ≡ (number == (finding_of finding.now).place.spot.route) }
+{
+    number == finding.place.route
+}
+
+/// What a finding marks in the tree of its route: the legs that answer, the leaf whose server is lost, and what deletes
+/// and gets of its keys reach.
+fn found_marks(alloc: Global, routes: &Routes, finding: &Finding) -> Result<Marks, AllocError>
+    ensures { IfOk result (λ marks. AreOwnMarks (finding_of finding.now) (marks_of marks)) }
+{
     let shown = answering(alloc, finding)?;
     let leaf = finding.place.leaf.copy(alloc)?;
-    let Reached { deletes, readable } = reach(alloc, routes, finding)?;
+    let reached = reach(alloc, routes, finding)?;
+    let Reached { deletes, readable } = reached;
     Ok(Marks::new(deletes, readable, shown, Some(leaf)))
 }
 
 fn unmarked(alloc: Global) -> Marks
     ensures { AreUnmarked (marks_of result) }
 {
-    Marks::new(Vec::new(alloc), Vec::new(alloc), Vec::new(alloc), None)
+    let deletes = Vec::new(alloc);
+    let readable = Vec::new(alloc);
+    let shown = Vec::new(alloc);
+    Marks::new(deletes, readable, shown, None)
 }
 
 /// The positions of the legs that answer the finding's delete and its get.
