@@ -55,6 +55,18 @@ fn fault_of(ended: &Result<Ending, Stop>) -> Option<&ConfigFault>
 fn detail_of(alloc: Global, input: &[u8], fault: &ConfigFault) -> Option<String>
     ensures { IfSome result (λ line. IsDetailOf input.now fault.now (string_bytes line)) }
 {
-    let line = fault_detail(alloc, input, fault).ok()?;
-    String::from_utf8(line).ok()
+    match fault_detail(alloc, input, fault) {
+        Ok(line) => text_of(line),
+        Err(_) => None,
+    }
+}
+
+/// Bytes as a text; None where they are none.
+fn text_of(line: Vec<u8>) -> Option<String>
+    ensures { IfSome result (λ text. string_bytes text ≡ line.items) }
+{
+    match String::from_utf8(line) {
+        Ok(text) => Some(text),
+        Err(_) => None,
+    }
 }

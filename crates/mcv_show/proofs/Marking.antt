@@ -5,7 +5,7 @@ use Rattle.std.specs.List.{All}
 use Rattle.std.proofs.lemmas.List.{map-append}
 use Rattle.std.proofs.lemmas.List.Elements.{All-append, All-map}
 use Rattle.mcv_draw.specs.Element.{ElementValue, element_of}
-use Rattle.mcv_cert.specs.declared.certificate.Certificate.{Certificate}
+use Rattle.mcv_cert.specs.Pair.{CertificateValue}
 use Rattle.mcv_draw.specs.Marks.{AreMarkedBy, AreSameMarks, IsMarkedBy, MarksValue, is_leaf, leads_to, marks_of}
 use Rattle.mcv_draw.specs.declared.marks.Marks.{Marks}
 use Rattle.mcv_draw.specs.declared.element.Element.{Element}
@@ -42,7 +42,7 @@ marked_here f number m here own = record {
 }
 
 -- of what is covered nothing is said
-pub any_marks : {E : Type 0} (r : Result Marks E) (what : Found) (number : ℕ) (certificate : Bor Certificate) → what ≡ found.Covered certificate
+pub any_marks : {E : Type 0} (r : Result Marks E) (what : Found) (number : ℕ) (certificate : Bor CertificateValue) → what ≡ found.Covered certificate
     → IfOk r (λ marks. AreMarksFor what number (marks_of marks))
 any_marks (Ok marks) what number certificate is = subst (λ (w : Found). AreMarksFor w number (marks_of marks)) (sym is) tt
 any_marks (Err e) what number certificate is = tt
