@@ -33,8 +33,9 @@ head_words width height = joined (
 abbrev pub left_of : (depth : ℕ) → ℕ
 left_of depth = 16 + 40 * depth
 
+-- no row is lower than row 4294967295
 abbrev pub top_of : (row : ℕ) → ℕ
-top_of row = 16 + 36 * row
+top_of row = 16 + 36 * min row 4294967295
 
 abbrev pub if_marked : Bool → List ℕ → List ℕ
 if_marked marked tag = if marked then tag else []

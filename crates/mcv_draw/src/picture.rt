@@ -1,6 +1,6 @@
 //! The picture as SVG.
 
-ghost use Rattle.std.specs.Prelude.{◌≡◌, ◌++◌, ◌<◌, ◌^◌, ◌+◌, IfOk, OnOk, length, map};
+ghost use Rattle.std.specs.Prelude.{◌≡◌, ◌++◌, ◌<◌, ◌^◌, IfOk, OnOk, map};
 ghost use Rattle.mcv_draw.specs.Element.{element_of};
 ghost use Rattle.mcv_draw.specs.Svg.{box_shape, box_text, caption, colour, edge_of, edge_word, element_text, fill, head, identifier, if_marked, inside, left_of, note, notes_from, right_of, stroke, svg, tags, text_width, thickness, top_of, widest, widest_note};
 
@@ -13,6 +13,9 @@ use std::alloc::{AllocError, Global};
 /// The most bytes of a text that count for the width of its box.
 const WIDTH_LIMIT: usize = 1000;
 
+/// The lowest row.
+const ROW_LIMIT: usize = 4_294_967_295;
+
 /// The picture of these elements, whose rows are `rows`, with the notes below them. The elements' words and labels, and
 /// the notes, are plain bytes.
 pub fn svg(
@@ -21,7 +24,6 @@ pub fn svg(
     rows: u32,
     notes: &[Vec<u8>],
 ) -> Result<Vec<u8>, AllocError>
-    requires { rows + length notes.now < 2 ^ 32 }
     ensures { IfOk result (λ text. text.items ≡ svg (map element_of elements.now) rows (map (λ n. n.items) notes.now)) }
 {
     let mut text = Vec::new(alloc);
@@ -42,12 +44,11 @@ fn push_size(
     rows: u32,
     notes: &[Vec<u8>],
 ) -> Result<(), AllocError>
-    requires { rows + length notes.now < 2 ^ 32 }
     ensures { OnOk result (text.new.items ≡ text.old.items ++ head (map element_of elements.now) rows (map (λ n. n.items) notes.now)) }
 {
     let width = widest_element(alloc, elements)?.max(widest_note(notes));
     let width = number_text(alloc, width + 16)?;
-    let height = number_text(alloc, top_of(rows + notes.len() as u32) + 16)?;
+    let height = number_text(alloc, top_of(rows as usize + notes.len()) + 16)?;
     push_head(text, width.as_slice(), height.as_slice())
 }
 
@@ -60,11 +61,11 @@ fn left_of(depth: u32) -> usize
     16 + 40 * depth as usize
 }
 
-fn top_of(row: u32) -> usize
+fn top_of(row: usize) -> usize
     ensures value { result ≡ top_of row }
     ensures small { result < 2 ^ 40 }
 {
-    16 + 36 * row as usize
+    16 + 36 * row.min(ROW_LIMIT)
 }
 
 fn text_width(text: &[u8]) -> usize
@@ -227,8 +228,8 @@ fn push_edge(
         return Ok(());
     }
     let x = number_text(alloc, left_of(element.depth - 1) + 12)?;
-    let y = number_text(alloc, top_of(element.above) + 26)?;
-    let down = number_text(alloc, top_of(row) + 13)?;
+    let y = number_text(alloc, top_of(element.above as usize) + 26)?;
+    let down = number_text(alloc, top_of(row as usize) + 13)?;
     let across = number_text(alloc, left_of(element.depth))?;
     let stroke = stroke(alloc, element)?;
     push_path(
@@ -253,7 +254,7 @@ fn push_box(
     ensures { OnOk result (text.new.items ≡ text.old.items ++ box_shape (element_of element.now) row) }
 {
     let x = number_text(alloc, left_of(element.depth))?;
-    let y = number_text(alloc, top_of(row))?;
+    let y = number_text(alloc, top_of(row as usize))?;
     let width = number_text(alloc, width)?;
     let stroke = stroke(alloc, element)?;
     push_rect(
@@ -278,7 +279,7 @@ fn push_caption(
     ensures { OnOk result (text.new.items ≡ text.old.items ++ caption (element_of element.now) row) }
 {
     let x = number_text(alloc, left_of(element.depth) + 8)?;
-    let y = number_text(alloc, top_of(row) + 18)?;
+    let y = number_text(alloc, top_of(row as usize) + 18)?;
     let said = xml_of(alloc, said)?;
     push_text(text, x.as_slice(), y.as_slice(), said.as_slice())
 }
@@ -310,7 +311,12 @@ fn push_element(alloc: Global, text: &mut Vec<u8>, element: &Element) -> Result<
 // ---- notes
 
 #[tactic(auto, unfolding(crate::specs::Svg::note))]
-fn push_note(alloc: Global, text: &mut Vec<u8>, row: u32, said: &[u8]) -> Result<(), AllocError>
+fn push_note(
+    alloc: Global,
+    text: &mut Vec<u8>,
+    row: usize,
+    said: &[u8],
+) -> Result<(), AllocError>
     ensures { OnOk result (text.new.items ≡ text.old.items ++ note row said.now) }
 {
     let y = number_text(alloc, top_of(row) + 18)?;
@@ -324,10 +330,9 @@ fn push_notes(
     first: u32,
     notes: &[Vec<u8>],
 ) -> Result<(), AllocError>
-    requires { first + length notes.now < 2 ^ 32 }
     ensures { OnOk result (text.new.items ≡ text.old.items ++ notes_from first (map (λ n. n.items) notes.now)) }
 {
-    let mut row = first;
+    let mut row = first as usize;
     for note in notes {
         push_note(alloc, text, row, note.as_slice())?;
         row += 1;

@@ -24,9 +24,6 @@ use mcv_witness::{Finding, finding_text};
 use std::alloc::{AllocError, Global};
 use std::io::{Read, Write};
 
-/// The most rows of a picture, and lines below it.
-const ROW_LIMIT: u32 = 1_000_000_000;
-
 /// The elements of a picture, and how many rows they have.
 #[derive(Drop)]
 struct Picture {
@@ -161,10 +158,6 @@ fn svg_of(alloc: Global, picture: &Picture, said: &[u8]) -> Result<Vec<u8>, Allo
     ensures { IfOk result (λ text. text.items ≡ svg (map element_of picture.now.elements.items) picture.now.rows (note_lines said.now)) }
 {
     let notes = lines_of(alloc, said)?;
-    // More rows and lines than these don't fit in memory.
-    if picture.rows > ROW_LIMIT || notes.len() > ROW_LIMIT as usize {
-        return Err(AllocError);
-    }
     svg(
         alloc,
         picture.elements.as_slice(),
