@@ -22,16 +22,16 @@ pub fn lost_text(alloc: Global, scene: &Scene<'_>) -> Result<Vec<u8>, AllocError
     ensures { IfOk result (λ text. (table : List ℕ) × IsBreakTable (breaks_of scene.now.routes.now) table
         × IsJsonOf text.items (lost_report (scene_of scene.now) table)) }
 {
-    let report = lost_report(alloc, scene)?;
+    let table = scene.routes.breaks();
+    let report = lost_report(alloc, scene, table)?;
     report_text(alloc, &report)
 }
 
-/// The report on a finding.
-fn lost_report(alloc: Global, scene: &Scene<'_>) -> Result<Value, AllocError>
-    ensures { IfOk result (λ v. (table : List ℕ) × IsBreakTable (breaks_of scene.now.routes.now) table
-        × (view v ≡ lost_report (scene_of scene.now) table)) }
+/// The report on a finding, with the table of breaks.
+fn lost_report(alloc: Global, scene: &Scene<'_>, table: &[Moment]) -> Result<Value, AllocError>
+    ensures { IfOk result (λ v. view v ≡ lost_report (scene_of scene.now) (map (λ m. m.0) table.now)) }
 {
-    let finding = finding_report(alloc, scene, scene.routes.breaks())?;
+    let finding = finding_report(alloc, scene, table)?;
     let verdict = text_of(alloc, b"lost")?;
     json!(in alloc; {
         "finding": finding,
