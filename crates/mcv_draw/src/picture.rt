@@ -311,12 +311,7 @@ fn push_element(alloc: Global, text: &mut Vec<u8>, element: &Element) -> Result<
 // ---- notes
 
 #[tactic(auto, unfolding(crate::specs::Svg::note))]
-fn push_note(
-    alloc: Global,
-    text: &mut Vec<u8>,
-    row: usize,
-    said: &[u8],
-) -> Result<(), AllocError>
+fn push_note(alloc: Global, text: &mut Vec<u8>, row: usize, said: &[u8]) -> Result<(), AllocError>
     ensures { OnOk result (text.new.items ≡ text.old.items ++ note row said.now) }
 {
     let y = number_text(alloc, top_of(row) + 18)?;

@@ -84,12 +84,7 @@ fn marks_are_drawn(rt: HostRuntime) -> Result<(), Fail> {
 }
 
 fn check_picture(rt: &impl Abort, alloc: Global, routes: &Routes) -> Result<(), Fail> {
-    let marks = Marks::new(
-        Vec::new(alloc),
-        Vec::new(alloc),
-        Vec::new(alloc),
-        None,
-    );
+    let marks = Marks::new(Vec::new(alloc), Vec::new(alloc), Vec::new(alloc), None);
     let list = elements_of(rt, alloc, routes, &marks)?;
     let mut notes = Vec::with_capacity(alloc, 1)?;
     notes.push(Vec::from_slice(alloc, b"a<b")?)?;
