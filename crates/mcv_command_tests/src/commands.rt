@@ -136,7 +136,10 @@ fn order_text(rt: &(impl AllocGlobal + Abort), options: RunOptions<'_>) -> Strin
 fn job_text(rt: &(impl AllocGlobal + Abort), job: Job<'_>) -> String {
     let text = match job {
         Job::Legs { at } => format!(in rt.alloc(); "legs at {}", at.0),
-        Job::Check { cert: None, options } => {
+        Job::Check {
+            cert: None,
+            options,
+        } => {
             let window = options.window.seconds;
             format!(in rt.alloc(); "check {window}{}", options_text(options))
         }

@@ -21,11 +21,7 @@ pub fn fault_detail(alloc: Global, input: &[u8], fault: &ConfigFault) -> Result<
 }
 
 /// The line on a fault that stands there.
-fn standing_line(
-    alloc: Global,
-    kind: FaultKind,
-    standing: &Standing,
-) -> Result<Vec<u8>, AllocError>
+fn standing_line(alloc: Global, kind: FaultKind, standing: &Standing) -> Result<Vec<u8>, AllocError>
     ensures { IfOk result (λ line. line.items
         ≡ fault_line kind (option_map string_bytes standing.now.text) (Some (standing.now.place.line, standing.now.place.column))) }
 {

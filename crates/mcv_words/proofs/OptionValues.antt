@@ -467,7 +467,7 @@ check_given words none =
     let third = defaulted check.rules (codes "json") (codes "false") explained refl refl second.0 in
     let last = defaulted check.rules (codes "quiet") (codes "false") reported refl refl third.0 in
     let has = kept (codes "window") (codes "quiet") (codes "false") reported
-        (kept (codes "window") (codes "json") (codes "false") explained (kept (codes "window") (codes "explain") (codes "false") windowed first.1)) in
+    (kept (codes "window") (codes "json") (codes "false") explained (kept (codes "window") (codes "explain") (codes "false") windowed first.1)) in
     let found = found_value check.rules (codes "window") after has last.0 in
     subst HasWindow (sym (unchanged (has_row (codes "help") after) after)) (found.0, found.2, found.3)
 

@@ -28,14 +28,18 @@ use thiserror::Error;
 #[derive(Clone, Copy, Debug, PartialEq, Eq)]
 pub enum Job<'a> {
     /// To show the legs of a request that comes at a moment.
-    Legs { at: Moment },
+    Legs {
+        at: Moment,
+    },
     /// To judge a configuration, by the certificate in the file of this name where one is given, as the options say.
     Check {
         cert: Option<&'a str>,
         options: CheckOptions,
     },
     /// To draw the routes of a configuration, for Graphviz or as SVG.
-    Draw { dot: bool },
+    Draw {
+        dot: bool,
+    },
     /// To serve clients.
     Run(RunOptions<'a>),
 }
