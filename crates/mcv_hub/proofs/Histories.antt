@@ -40,7 +40,7 @@ use Rattle.mcv_core.specs.Events as events
 use Rattle.mcv_core.specs.View.{core_view}
 use Rattle.mcv_core.proofs.EventsLead.{Leads, goes, nothing_leads, stays}
 use Rattle.mcv_core.specs.declared.fault.CoreFault.{CoreFault}
-use Rattle.mcv_core.specs.declared.fault.CoreFault.TheVariants.{NoSuchCall}
+use Rattle.mcv_core.specs.declared.fault.CoreFault.TheVariants.{ChapterFull, NoSuchCall}
 use Rattle.mcv_core.specs.declared.step.Step.{Step}
 use Rattle.mcv_core.specs.declared.turn.Era.{Era}
 use Rattle.mcv_core.specs.declared.step.Change.{Change}
@@ -49,8 +49,10 @@ use Rattle.mcv_hub.specs.declared.entry.Entry.{Entry}
 use Rattle.mcv_hub.specs.declared.entry.Entry.TheVariants as entries
 use Rattle.mcv_hub.specs.Events.{BeginsChapter, IsHubEvent}
 use Rattle.mcv_hub.specs.History.{Begins, IsMoveOf, IsHistory, IsHistoryFrom, Writes, answer_change, answer_era, begins_one, begun_by, none, more, is_began, is_taken, taken_by, takes_one, with_entry, written, entries_in, leg_entry, era_entry}
+use Rattle.mcv_hub.specs.Gate.{IsHubBegun, most_bytes}
 use Rattle.mcv_hub.specs.RemainingEntries.{break_count, may_write}
-use Rattle.mcv_hub.specs.State.{HasRoom, HistoryKeepsDeletes, HubView, IsHub, IsSameChapter}
+use Rattle.mcv_hub.specs.State.{HasRoom, HistoryKeepsDeletes, HubView, IsHub, IsSame, IsSameChapter}
+use Rattle.mcv_hub.specs.Weights.{bytes_of}
 use Rattle.mcv_hub.proofs.EventsMayWrite.{Goes, GoesOn}
 
 run-push : (r : RoutesValue) (w : World) (ms : List Move) (m : Move) → run r w (ms ++ m ∷ []) ≡ after r (run r w ms) m
@@ -242,15 +244,14 @@ module _ (v w : CoreView) (es : List Entry) (c b t bb tb len capacity places bre
 
   -- a chapter that began
   pub turn_holds : (es' : List Entry) (c' places' bb' tb' len' capacity' : ℕ) → w.routes ≡ v.routes → IsQuiet w → c' ≡ w.chapter → bb' ≡ b → tb' ≡ t → bb' < 2 ^ 63 → tb' < 2 ^ 63 → may_write w ≤ may_write v → places' ≤ places
-      → (places' ≡ places) ⊎ (may_write w ≤ places') → es' ≡ [] → len' ≡ 0 → capacity' ≡ capacity → Holds w es' c' b t bb' tb' len' capacity' places' breaks
-  turn_holds es' c' places' bb' tb' len' capacity' same q chapter begun taken small few less lesser either empty zero kept_same = (
+      → (places' ≡ places) ⊎ (may_write w ≤ places') → es' ≡ [] → len' ≡ 0 → places' ≤ capacity' → Holds w es' c' b t bb' tb' len' capacity' places' breaks
+  turn_holds es' c' places' bb' tb' len' capacity' same q chapter begun taken small few less lesser either empty zero kept = (
     subst (λ z. IsHub w z c' b t bb' tb') (sym empty) (hub_after_turn v w c' b t bb' tb' h.0.covered same q chapter begun taken small few),
     let within = h.1.within in
-        let kept = h.1.kept in
         let least = h.1.small in
         record {
           within = elim either [ inl e ↦ omega (arith, within, less, zero, e) | inr e ↦ omega (arith, zero, e) ];
-          kept = omega (arith, kept, lesser, kept_same);
+          kept = kept;
           small = omega (arith, least, lesser);
         },
     h.2 ∙ ap break_count (sym same),
@@ -452,9 +453,9 @@ uncalled_event old new call fault is no_call same history b t chapter =
 
 -- ---- chapters
 
-pub chapter_begins : (old new : HubView) (m : Option Move) → Turns (core_view old.core) m (core_view new.core) → new.history ≡ [] → new.chapter ≡ old.chapter + 1 → new.begun ≡ old.begun → new.taken ≡ old.taken → new.begun_before ≡ old.begun → new.taken_before ≡ old.taken
+pub chapter_begins : (old new : HubView) (m : Option Move) → Turns (core_view old.core) m (core_view new.core) → new.history ≡ [] → new.hub ≡ old.hub → new.chapter ≡ old.chapter + 1 → new.opened ≡ (core_view new.core).entries → new.begun ≡ old.begun → new.taken ≡ old.taken → new.begun_before ≡ old.begun → new.taken_before ≡ old.taken
     → old.begun < 2 ^ 63 → old.taken < 2 ^ 63 → BeginsChapter old new
-chapter_begins old new m h history chapter b t bb tb few_begun few_taken =
+chapter_begins old new m h history hub chapter opened b t bb tb few_begun few_taken =
     let v : CoreView = core_view old.core in
     let w : CoreView = core_view new.core in
     record {
@@ -463,7 +464,9 @@ chapter_begins old new m h history chapter b t bb tb few_begun few_taken =
       opening =
           subst (λ es. IsHistoryFrom w.routes (world_of v.rows) (world_of w.rows) es) (sym history)
           (subst (λ o. IsHistoryFrom w.routes o (world_of w.rows) []) h.does.world (record { moves = []; are = none; opens = h.quiet.0; legal = tt; replays = h.quiet.1 }));
+      hub = hub;
       chapter = chapter;
+      opened = opened;
       begun = b;
       taken = t;
       begun_before = bb;
@@ -471,3 +474,15 @@ chapter_begins old new m h history chapter b t bb tb few_begun few_taken =
       few_begun = few_begun;
       few_taken = few_taken;
     }
+
+-- ---- the bytes of a history
+
+pub same_hub : (v : HubView) → IsSame v v
+same_hub v = record { core = refl; history = refl; books = record { begun = refl; taken = refl; same = record { hub = refl; chapter = refl; opened = refl; begun_before = refl; taken_before = refl } } }
+
+-- no call begins where it holds too many
+pub heavy_begun : (v : HubView) (request : Request) (key : ℕ) → most_bytes < bytes_of v.history → IsHubBegun v request key (Err ChapterFull) v
+heavy_begun v request key more = record { heavy = λ much. (refl, same_hub v); event = λ few. absurd (omega (arith, more, few)) }
+
+pub light_begun : (old new : HubView) (request : Request) (key : ℕ) (result : Result CallId CoreFault) → bytes_of old.history ≤ most_bytes → IsHubEvent (IsBegun (core_view old.core) fnv_index request key result) old new → IsHubBegun old request key result new
+light_begun old new request key result few h = record { heavy = λ much. absurd (omega (arith, much, few)); event = λ less. h }

@@ -5,3 +5,7 @@ mod EventsMayWrite
 mod Histories
 mod CheckedReceipts
 mod AskedCalls
+mod DueChapters
+mod AddedWeights
+pub mod Books
+mod Examples

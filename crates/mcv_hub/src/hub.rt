@@ -1,8 +1,10 @@
 //! The lock, and the bells on which threads wait.
 
 ghost use Rattle.std.specs.Prelude.{◌≡◌, ◌+◌, IfErr, IfOk};
+ghost use Rattle.mcv_hub.specs.Gate.{is_closed, is_chapter_due};
 ghost use Rattle.mcv_core.specs.declared.fault.CoreFault.TheVariants.{Memory as OutOfMemory};
 
+use crate::gate::Gate;
 use crate::guard::Guard;
 use crate::pass::{Pass, Passes};
 use crate::state::HubState;
@@ -15,14 +17,17 @@ use std::hint::spin_loop;
 use std::rt::Clock;
 use std::sync::ledger::{Blank, Ledger};
 use std::sync::{Arc, Condvar, Mutex, Wait};
-use std::time::Duration;
+use std::time::{Duration, Instant};
+
+/// How long a call that waits for the next chapter sleeps at most, in milliseconds, until it looks again.
+const PAUSE: u64 = 10;
 
 /// How often the lock is tried before a thread sleeps until it is free: for four microseconds or more.
 const TRIES: u32 = 400;
 
 /// What a thread waits for: a leg for a server's worker, the reply to a call for a session, a record for the spool's
-/// worker, a leg in the spool for the replayer, the end of all calls and legs for a session whose call found no place
-/// in the chapter.
+/// worker, a leg in the spool for the replayer, the end of all calls and legs, or the next chapter, for a session that wants
+/// to begin a call while that chapter is due.
 #[derive(Clone, Copy, PartialEq, Eq)]
 pub enum Bell {
     Server(ServerId),
@@ -53,30 +58,62 @@ fn bells(alloc: Global, count: usize) -> Result<Vec<Condvar>, AllocError> {
     Ok(bells)
 }
 
+/// How many there are to be of what a hub begins with.
+#[derive(Clone, Copy, Debug, PartialEq, Eq)]
+pub struct Capacity {
+    /// How many bells sessions wait at.
+    pub bells: usize,
+    /// How many seats there are for sessions.
+    pub seats: u64,
+}
+
+/// How long a call waits for the next chapter.
+#[derive(Clone, Copy)]
+struct Patience {
+    most: Duration,
+    since: Option<Instant>,
+}
+
+impl Patience {
+    /// Whether it is over; a call begins to wait where this is asked first. Where the clock can't be read it is.
+    fn is_over<R: Clock>(&mut self, rt: &R) -> bool {
+        let Ok(now) = Instant::now(rt) else {
+            return true;
+        };
+        match self.since {
+            Some(since) => now.duration_since(since) >= self.most,
+            None => {
+                self.since = Some(now);
+                false
+            }
+        }
+    }
+}
+
 impl<B: Ledger, T: Ledger> Hub<B, T> {
-    /// A hub over these routes with the records that the spool held, in its first chapter, with bells for their servers
-    /// and for this many sessions, and what makes its passes and `seats` seats. The one error is Memory.
+    /// The hub of this number over these routes, with the records that the spool held, in its first chapter, with bells for
+    /// their servers and for sessions, and what makes its passes and seats. The one error is Memory.
     pub fn new(
         alloc: Global,
         accepted: Arc<Accepted>,
+        hub: usize,
         records: &[(u64, SpoolRecord)],
-        sessions: usize,
-        seats: u64,
+        capacity: Capacity,
         begun: Blank,
         taken: Blank,
     ) -> Result<(Hub<B, T>, Passes<B, T>), CoreFault>
-        requires begun { (begun.name ≡ B.name) × (begun.parts ≡ B.parts) × (begun.parts ≡ seats + 1) }
-        requires taken { (taken.name ≡ T.name) × (taken.parts ≡ T.parts) × (taken.parts ≡ seats + 1) }
-        ensures seats { IfOk result (λ r. r.1.left ≡ seats) }
+        requires begun { (begun.name ≡ B.name) × (begun.parts ≡ B.parts) × (begun.parts ≡ capacity.seats + 1) }
+        requires taken { (taken.name ≡ T.name) × (taken.parts ≡ T.parts) × (taken.parts ≡ capacity.seats + 1) }
+        ensures seats { IfOk result (λ r. r.1.left ≡ capacity.seats) }
         ensures err { IfErr result (λ fault. fault ≡ OutOfMemory) }
     {
         let Ok(servers) = bells(alloc, accepted.routes().servers().len()) else {
             return Err(CoreFault::Memory);
         };
-        let Ok(calls) = bells(alloc, sessions) else {
+        let Ok(calls) = bells(alloc, capacity.bells) else {
             return Err(CoreFault::Memory);
         };
-        let (state, begun, taken) = HubState::new(alloc, accepted, records, begun, taken)?;
+        let (state, begun, taken) = HubState::new(alloc, accepted, hub, records, begun, taken)?;
         let hub = Hub {
             state: Mutex::new(state),
             servers,
@@ -85,7 +122,7 @@ impl<B: Ledger, T: Ledger> Hub<B, T> {
             replayer: Condvar::new(),
             chapter: Condvar::new(),
         };
-        Ok((hub, Passes::new(seats, begun, taken)))
+        Ok((hub, Passes::new(capacity.seats, begun, taken)))
     }
 
     /// Waits for the lock. It is held for about a microsecond, so it is tried for a while before the thread sleeps.
@@ -113,6 +150,29 @@ impl<B: Ledger, T: Ledger> Hub<B, T> {
         most: Duration,
     ) -> Guard<'a, B, T> {
         guard.wait_at_for(rt, self.bell(bell), most)
+    }
+
+    /// Waits, for as long as this at most, until a call may begin: where the next chapter is due, until nothing is left of this
+    /// one. The first that finds nothing left begins the next chapter. Closed where the wait was in vain.
+    pub fn enter<'a, R: Wait + Clock>(
+        &self,
+        rt: &R,
+        alloc: Global,
+        guard: Guard<'a, B, T>,
+        most: Duration,
+    ) -> (Guard<'a, B, T>, Gate)
+        ensures { is_chapter_due result.0 ≡ is_closed result.1 }
+    {
+        let mut guard = guard;
+        let mut patience = Patience { most, since: None };
+        for _attempt in rt.forever() {
+            let gate = guard.gate(alloc);
+            if !gate.is_closed() || patience.is_over(rt) {
+                return (guard, gate);
+            }
+            guard = self.wait_for(rt, guard, Bell::Chapter, Duration::from_millis(PAUSE));
+        }
+        unreachable!()
     }
 
     /// The condition variable of a bell. Calls whose numbers have one remainder by the number of their bells share one;

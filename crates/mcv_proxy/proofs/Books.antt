@@ -1,8 +1,9 @@
--- What a seat counts, by what an event of the hub is.
-use Rattle.std.proofs.Common.{◌≡◌, ◌+◌, ℕ, List, Option, None, Some, Result, Ok, Err, ap, arith}
-use Rattle.std.specs.Prelude.{IfErr, IfNone, IfOk, IfSome, OnErr, OnOk}
+-- Why the hub refuses.
+use Rattle.std.proofs.Common.{◌≡◌, ℕ, List, Option, Result, Ok, Err, subst, sym}
+use Rattle.std.specs.Prelude.{IfErr}
 use Rattle.mcv_base.specs.declared.request.CallId.{CallId}
 use Rattle.mcv_base.specs.declared.request.Request.{Request}
+use Rattle.mcv_pools.specs.Hash.{fnv_index}
 use Rattle.mcv_pools.specs.Symbol.{SymbolValue}
 use Rattle.mcv_core.specs.Asking as asking
 use Rattle.mcv_core.specs.Events.{IsBegun, IsTaken}
@@ -11,7 +12,8 @@ use Rattle.mcv_core.specs.declared.fault.CoreFault.{CoreFault}
 use Rattle.mcv_core.specs.declared.fault.CoreFault.TheVariants.{UnknownPrefix, BadKey, LegsFull, ChapterFull, NothingWaiting, NoSuchLeg, Busy, ClockBack, Memory, NoSuchCall}
 use Rattle.mcv_core.specs.CoreView.{CoreView}
 use Rattle.mcv_hub.specs.Events.{IsHubEvent, taken_part}
-use Rattle.mcv_hub.specs.History.{begun_by, taken_by}
+use Rattle.mcv_hub.specs.Gate.{IsHubBegun}
+use Rattle.mcv_hub.proofs.Books.{by_weight}
 use Rattle.mcv_hub.specs.State.{HubView}
 use Rattle.mcv_hub.specs.declared.seat.TakenReply.{TakenReply}
 use Rattle.mcv_proxy.specs.Desk.{IsRefusal}
@@ -31,45 +33,16 @@ refusal_of v chosen request key NoSuchCall h = h
 
 -- ---- a call begins
 
-module _ (chosen : SymbolValue → List ℕ → ℕ) (request : Request) (key : ℕ) (old new : HubView) where
-  pub begun_counts : (r : Result CallId CoreFault) (a a2 : ℕ) → IsHubEvent (IsBegun (core_view old.core) chosen request key r) old new → a2 + old.begun ≡ a + new.begun → OnOk r (a2 ≡ a + 1)
-  begun_counts (Ok call) a a2 h sum = let one = ap begun_by h.event.move in let more = h.begun in omega (arith, sum, one, more)
-  begun_counts (Err fault) a a2 h sum = tt
-
-  pub unbegun_counts : (r : Result CallId CoreFault) (a a2 : ℕ) → IsHubEvent (IsBegun (core_view old.core) chosen request key r) old new → a2 + old.begun ≡ a + new.begun → OnErr r (a2 ≡ a)
-  unbegun_counts (Ok call) a a2 h sum = tt
-  unbegun_counts (Err fault) a a2 h sum = let none = ap begun_by h.event.none in let more = h.begun in omega (arith, sum, none, more)
-
-  pub begun_takes : (r : Result CallId CoreFault) (a a2 : ℕ) → IsHubEvent (IsBegun (core_view old.core) chosen request key r) old new → a2 + old.taken ≡ a + new.taken → a2 ≡ a
-  begun_takes (Ok call) a a2 h sum = let none = ap taken_by h.event.move in let more = h.taken in omega (arith, sum, none, more)
-  begun_takes (Err fault) a a2 h sum = let none = ap taken_by h.event.none in let more = h.taken in omega (arith, sum, none, more)
-
-  pub unbegun_refusal : (r : Result CallId CoreFault) → IsHubEvent (IsBegun (core_view old.core) chosen request key r) old new → IfErr r IsRefusal
-  unbegun_refusal (Ok call) h = tt
-  unbegun_refusal (Err fault) h = refusal_of (core_view old.core) chosen request key fault h.event.cause
+pub unbegun_refusal : (request : Request) (key : ℕ) (old new : HubView) (r : Result CallId CoreFault) → IsHubBegun old request key r new → IfErr r IsRefusal
+unbegun_refusal request key old new r h = by_weight request key old new r h (λ is same. subst (λ z. IfErr z IsRefusal) (sym is) tt) (λ e. by r e)
+  where
+    by : (z : Result CallId CoreFault) → IsHubEvent (IsBegun (core_view old.core) fnv_index request key z) old new → IfErr z IsRefusal
+    by (Ok call) e = tt
+    by (Err fault) e = refusal_of (core_view old.core) fnv_index request key fault e.event.cause
 
 -- ---- a reply is taken
 
 module _ (call : CallId) (old new : HubView) where
-  pub taken_counts : (r : Result (Option TakenReply) CoreFault) (a a2 : ℕ) → IsHubEvent (IsTaken (core_view old.core) call (taken_part r)) old new → a2 + old.taken ≡ a + new.taken → IfOk r (λ o. IfSome o (λ t. a2 ≡ a + 1))
-  taken_counts (Ok (Some t)) a a2 h sum = let one = ap taken_by h.event.move in let more = h.taken in omega (arith, sum, one, more)
-  taken_counts (Ok None) a a2 h sum = tt
-  taken_counts (Err fault) a a2 h sum = tt
-
-  pub untaken_counts : (r : Result (Option TakenReply) CoreFault) (a a2 : ℕ) → IsHubEvent (IsTaken (core_view old.core) call (taken_part r)) old new → a2 + old.taken ≡ a + new.taken → IfOk r (λ o. IfNone o (a2 ≡ a))
-  untaken_counts (Ok (Some t)) a a2 h sum = tt
-  untaken_counts (Ok None) a a2 h sum = let none = ap taken_by h.event.none in let more = h.taken in omega (arith, sum, none, more)
-  untaken_counts (Err fault) a a2 h sum = tt
-
-  pub refused_counts : (r : Result (Option TakenReply) CoreFault) (a a2 : ℕ) → IsHubEvent (IsTaken (core_view old.core) call (taken_part r)) old new → a2 + old.taken ≡ a + new.taken → OnErr r (a2 ≡ a)
-  refused_counts (Ok o) a a2 h sum = tt
-  refused_counts (Err fault) a a2 h sum = let none = ap taken_by h.event.none in let more = h.taken in omega (arith, sum, none, more)
-
-  pub taken_begins : (r : Result (Option TakenReply) CoreFault) (a a2 : ℕ) → IsHubEvent (IsTaken (core_view old.core) call (taken_part r)) old new → a2 + old.begun ≡ a + new.begun → a2 ≡ a
-  taken_begins (Ok (Some t)) a a2 h sum = let none = ap begun_by h.event.move in let more = h.begun in omega (arith, sum, none, more)
-  taken_begins (Ok None) a a2 h sum = let none = ap begun_by h.event.none in let more = h.begun in omega (arith, sum, none, more)
-  taken_begins (Err fault) a a2 h sum = let none = ap begun_by h.event.none in let more = h.begun in omega (arith, sum, none, more)
-
   pub no_call : (r : Result (Option TakenReply) CoreFault) → IsHubEvent (IsTaken (core_view old.core) call (taken_part r)) old new → IfErr r (λ fault. fault ≡ NoSuchCall)
   no_call (Ok o) h = tt
   no_call (Err fault) h = h.event.cause.0

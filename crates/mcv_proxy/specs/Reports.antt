@@ -13,7 +13,7 @@ pub record IsReportOf (receipts : List Receipt) (report : Report) : Type 0 where
   pub keeps : HistoryKeepsDeletes (core_view state.core) state.history
   pub begun : report.begun ≡ state.begun
   pub taken : report.taken ≡ state.taken
-  pub passed : ArePassed state.chapter state.history receipts report.older
+  pub passed : ArePassed state.hub state.chapter state.history receipts report.older
 
 -- the same, of the receipts of all sessions of a hub
 pub record IsHubReport (report : Report) : Type 0 where

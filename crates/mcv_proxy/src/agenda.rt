@@ -2,7 +2,7 @@
 
 use mcv_base::{CallId, LegId, Mark, ServerId};
 use mcv_core::{Dispatcher, LegState, LegView};
-use mcv_hub::{Bell, Hub};
+use mcv_hub::{Bell, Hub, Past};
 use std::alloc::Global;
 use std::sync::ledger::Ledger;
 
@@ -13,12 +13,13 @@ pub(crate) struct Due {
     pub(crate) leg: LegId,
 }
 
-/// What events leave to be done: bells to be rung once the lock is let go, so that who wakes doesn't find it locked, and
-/// legs that a session has to send for its calls.
+/// What events leave to be done: bells to be rung once the lock is let go, so that who wakes doesn't find it locked, an old
+/// chapter to be dropped then, and legs that a session has to send for its calls.
 #[derive(Drop)]
 pub(crate) struct Agenda<'a, B: Ledger, T: Ledger> {
     hub: &'a Hub<B, T>,
     bells: Vec<Bell>,
+    past: Option<Past>,
     pub(crate) due: Vec<Due>,
 }
 
@@ -48,6 +49,7 @@ impl<'a, B: Ledger, T: Ledger> Agenda<'a, B, T> {
         Agenda {
             hub,
             bells: Vec::new(alloc),
+            past: None,
             due: Vec::new(alloc),
         }
     }
@@ -60,6 +62,17 @@ impl<'a, B: Ledger, T: Ledger> Agenda<'a, B, T> {
     /// This bell is to be rung.
     pub(crate) fn add(&mut self, bell: Bell) {
         keep_in_mind(self.hub, &mut self.bells, bell);
+    }
+
+    /// The next chapter has begun: who waits for it is to be rung, and what is left of the old one to be dropped.
+    pub(crate) fn note_turned(&mut self, past: Past) {
+        self.past = Some(past);
+        self.add(Bell::Chapter);
+    }
+
+    /// Drops what is left of an old chapter. The lock is let go before.
+    pub(crate) fn drop_past(&mut self) {
+        self.past = None;
     }
 
     /// Rings all bells that are to be rung.

@@ -15,20 +15,17 @@ use crate::lanes::{Lanes, Links};
 use mcv_base::{CallId, Op, Part, Request, Rest, key_words_have_one_reading, split_key};
 use mcv_check::Accepted;
 use mcv_core::CoreFault;
-use mcv_hub::{Bell, Guard, Hub, Pass, Receipt, Seat, TakenReply};
+use mcv_hub::{Bell, Gate, Guard, Hub, Pass, Receipt, Seat, TakenReply};
 use mcv_route::Routes;
 use mcv_session::{Desk, DeskFault};
 use std::alloc::{AllocError, Global};
 use std::rt::Clock;
 use std::sync::ledger::Ledger;
 use std::sync::{Arc, Wait};
-use std::time::{Duration, Instant};
+use std::time::Duration;
 
-/// How long a call waits for a place in the chapter, in milliseconds.
-const PATIENCE: u64 = 1_000;
-
-/// How long it waits each time at most, in milliseconds.
-const PAUSE: u64 = 10;
+/// How long a call waits for the next chapter at most, in milliseconds.
+const PATIENCE: u64 = 50;
 
 /// What calls of a hub take: the ways to the servers, the pass and the seat of one session, its watch and its errands.
 #[derive(Drop)]
@@ -210,32 +207,37 @@ fn confirmed(routes: &Routes, request: &Request, key: usize, fault: CoreFault) -
     }
 }
 
-/// When a call began to wait for a place in the chapter.
-#[derive(Clone, Copy)]
-struct Patience {
-    since: Option<Instant>,
-}
-
-impl Patience {
-    /// Whether a call has waited for `PATIENCE`; it begins to wait where it is asked first. Where the clock can't be read it
-    /// has.
-    fn is_over<R: Clock>(&mut self, rt: &R) -> bool {
-        let Ok(now) = Instant::now(rt) else {
-            return true;
-        };
-        match self.since {
-            Some(since) => now.duration_since(since) >= Duration::from_millis(PATIENCE),
-            None => {
-                self.since = Some(now);
-                false
-            }
-        }
+/// Begins a call. Where the chapter has no place for it, and nothing is left of that, the next one begins first, and the call
+/// is begun once more.
+fn begin_once_more<B: Ledger, T: Ledger>(
+    alloc: Global,
+    guard: &mut Guard<'_, B, T>,
+    seat: &mut Seat<B, T>,
+    agenda: &mut Agenda<'_, B, T>,
+    request: &Arc<Request>,
+    key: usize,
+) -> Result<CallId, CoreFault>
+    ensures err { IfErr result IsRefusal }
+    ensures begun { OnOk result (seat.new.begun.amount ≡ seat.old.begun.amount + 1) }
+    ensures unbegun { OnErr result (seat.new.begun.amount ≡ seat.old.begun.amount) }
+    ensures taken { seat.new.taken.amount ≡ seat.old.taken.amount }
+{
+    let (Ok(first), Ok(second)) = (Arc::try_clone(request), Arc::try_clone(request)) else {
+        return Err(CoreFault::Memory);
+    };
+    match events::begin(alloc, agenda, guard, seat, first, key) {
+        Err(CoreFault::ChapterFull) => {}
+        answer => return answer,
     }
+    let Ok(past) = guard.turn(alloc) else {
+        return Err(CoreFault::ChapterFull);
+    };
+    agenda.note_turned(past);
+    events::begin(alloc, agenda, guard, seat, second, key)
 }
 
-/// Begins a call. Where the chapter has no place for it, a new chapter begins first, and the call is begun once more. The
-/// first key of a request waits for that a second at most, while calls run or legs are queued; for another one the
-/// request's own calls run, so it is refused.
+/// Begins a call for one key of a request. Where the next chapter is due the first key waits for it, and begins in the old one
+/// where that takes too long; for another key the request's own calls run, so it doesn't wait.
 fn begin_in_chapter<'a, B: Ledger, T: Ledger, R: Wait + Clock>(
     rt: &R,
     alloc: Global,
@@ -252,28 +254,15 @@ fn begin_in_chapter<'a, B: Ledger, T: Ledger, R: Wait + Clock>(
     ensures taken { seat.new.taken.amount ≡ seat.old.taken.amount }
 {
     let mut guard = guard;
-    let mut patience = Patience { since: None };
-    let mut has_turned = false;
-    for _attempt in rt.forever() {
-        let Ok(request) = Arc::try_clone(request) else {
-            return (guard, Err(CoreFault::Memory));
-        };
-        match events::begin(alloc, agenda, &mut guard, seat, request, key) {
-            Err(CoreFault::ChapterFull) => {}
-            answer => return (guard, answer),
-        }
-        if has_turned {
-            return (guard, Err(CoreFault::ChapterFull));
-        }
-        has_turned = guard.turn().is_ok();
-        if !has_turned {
-            if key > 0 || patience.is_over(rt) {
-                return (guard, Err(CoreFault::ChapterFull));
-            }
-            guard = hub.wait_for(rt, guard, Bell::Chapter, Duration::from_millis(PAUSE));
+    if key == 0 {
+        let (entered, gate) = hub.enter(rt, alloc, guard, Duration::from_millis(PATIENCE));
+        guard = entered;
+        if let Gate::Turned(past) = gate {
+            agenda.note_turned(past);
         }
     }
-    unreachable!()
+    let begun = begin_once_more(alloc, &mut guard, seat, agenda, request, key);
+    (guard, begun)
 }
 
 /// Begins the calls for the keys of a request, in their order, up to the first that is refused.
@@ -385,7 +374,7 @@ fn go_on<B: Ledger, T: Ledger, L: Link, R: Wait>(
         progress = take_ready(&mut guard, seat, calls, progress, taken);
         let Some(call) = calls.get(progress.done) else {
             errands.agenda.leave(guard.core());
-            events::turn_where_full(&mut errands.agenda, &mut guard, errands.turn_from);
+            events::turn_where_due(alloc, &mut errands.agenda, &mut guard);
             return progress;
         };
         let has_lost = errands.set_off(rt, alloc, lanes, &mut guard, calls, Some(*call));
@@ -578,8 +567,7 @@ impl<'a, B: Ledger, T: Ledger, L: Link, W: Watch, R: Wait + Clock> Caller<'a, B,
 }
 
 impl<'a, B: Ledger, T: Ledger, L: Link, W: Watch, R: Wait + Clock> HubDesk<'a, B, T, L, W, R> {
-    /// A desk over a hub of these routes that has answered nothing. Once the hub's chapter has `turn_from` entries or more a
-    /// new one begins as soon as no call runs and no leg is queued.
+    /// A desk over a hub of these routes that has answered nothing.
     pub fn new(
         rt: &'a R,
         alloc: Global,
@@ -590,7 +578,6 @@ impl<'a, B: Ledger, T: Ledger, L: Link, W: Watch, R: Wait + Clock> HubDesk<'a, B
         pass: Pass,
         seat: Seat<B, T>,
         watch: W,
-        turn_from: usize,
     ) -> HubDesk<'a, B, T, L, W, R>
         ensures receipts { result.kept.receipts.items ≡ [] }
         ensures routes { result.accepted ≡ accepted }
@@ -606,7 +593,7 @@ impl<'a, B: Ledger, T: Ledger, L: Link, W: Watch, R: Wait + Clock> HubDesk<'a, B
                 pass,
                 seat,
                 watch,
-                errands: Errands::new(alloc, hub, turn_from),
+                errands: Errands::new(alloc, hub),
             },
             kept: Kept::new(alloc),
         }

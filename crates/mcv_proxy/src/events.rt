@@ -2,10 +2,10 @@
 
 ghost use Rattle.std.specs.Prelude.{◌≡◌, ◌+◌, IfErr, OnErr, OnOk};
 ghost use Rattle.std.specs.Arc.{arc_value};
-ghost use Rattle.mcv_pools.specs.Hash.{fnv_index};
-ghost use Rattle.mcv_core.specs.Events.{IsAnsweredLeg, IsBegun, IsRefusedLeg, IsSpooledLeg};
+ghost use Rattle.mcv_core.specs.Events.{IsAnsweredLeg, IsRefusedLeg, IsSpooledLeg};
 ghost use Rattle.mcv_core.specs.View.{core_view};
 ghost use Rattle.mcv_hub.specs.Events.{IsHubEvent};
+ghost use Rattle.mcv_hub.specs.Gate.{IsHubBegun};
 ghost use Rattle.mcv_proxy.specs.Desk.{IsRefusal};
 ghost use Rattle.mcv_proxy.specs.Events.{IsLoss};
 ghost use Rattle.mcv_proxy.specs.Steps.{IsLanding};
@@ -14,7 +14,7 @@ use crate::agenda::Agenda;
 use crate::gates::LinkFault;
 use mcv_base::{CallId, LegId, Request, ServerId};
 use mcv_core::{CoreFault, Dispatcher, LegState, Step};
-use mcv_hub::{Bell, Guard, LegReply, Seat};
+use mcv_hub::{Bell, Gate, Guard, LegReply, Seat};
 use mcv_spool::Stored;
 use std::alloc::Global;
 use std::sync::Arc;
@@ -40,17 +40,14 @@ fn concerned_by(core: &Dispatcher, leg: LegId) -> Concerned {
     }
 }
 
-/// From how many entries on the chapters of all hubs end, each once nothing is left of it, and a call may wait for the next one.
-pub(crate) const MANY_ENTRIES: usize = 500_000;
-
-/// Begins a new chapter where this one has so many entries, and no call of it runs and no leg is queued.
-pub(crate) fn turn_where_full<B: Ledger, T: Ledger>(
+/// Begins the next chapter where it is due, and no call runs and no leg is queued.
+pub(crate) fn turn_where_due<B: Ledger, T: Ledger>(
+    alloc: Global,
     agenda: &mut Agenda<'_, B, T>,
     guard: &mut Guard<'_, B, T>,
-    most: usize,
 ) {
-    if guard.core().entries() >= most && guard.turn().is_ok() {
-        agenda.add(Bell::Chapter);
+    if let Gate::Turned(past) = guard.gate(alloc) {
+        agenda.note_turned(past);
     }
 }
 
@@ -59,18 +56,19 @@ pub(crate) fn turn_where_full<B: Ledger, T: Ledger>(
 /// it now is. Who may send the server's next leg isn't among them.
 fn note_after<B: Ledger, T: Ledger>(
     agenda: &mut Agenda<'_, B, T>,
-    core: &Dispatcher,
+    guard: &Guard<'_, B, T>,
     own: &[CallId],
     concerned: Concerned,
     state: LegState,
 ) {
+    let core = guard.core();
     agenda.note_launched(core, concerned.first, own);
     if let Some(call) = concerned.call {
         if !own.contains(&call) && core.can_take(call) {
             agenda.add(Bell::Call(call));
         }
     }
-    if core.entries() >= MANY_ENTRIES {
+    if guard.is_due() && core.is_at_rest() {
         agenda.add(Bell::Chapter);
     }
     match state {
@@ -101,7 +99,7 @@ pub(crate) fn begin<B: Ledger, T: Ledger>(
     request: Arc<Request>,
     key: usize,
 ) -> Result<CallId, CoreFault>
-    ensures event { IsHubEvent (IsBegun (core_view guard.old.core) fnv_index (arc_value request) key result) guard.old guard.new }
+    ensures event { IsHubBegun guard.old (arc_value request) key result guard.new }
     ensures begun { OnOk result (seat.new.begun.amount ≡ seat.old.begun.amount + 1) }
     ensures unbegun { OnErr result (seat.new.begun.amount ≡ seat.old.begun.amount) }
     ensures taken { seat.new.taken.amount ≡ seat.old.taken.amount }
@@ -126,7 +124,7 @@ pub(crate) fn answered<B: Ledger, T: Ledger>(
     let concerned = concerned_by(guard.core(), leg);
     let answered = guard.answered(leg, reply);
     if let Ok(step) = &answered {
-        note_after(agenda, guard.core(), own, concerned, step.state);
+        note_after(agenda, guard, own, concerned, step.state);
     }
     answered
 }
@@ -145,7 +143,7 @@ pub(crate) fn lost<B: Ledger, T: Ledger>(
     match guard.lost(leg) {
         Ok(step) => {
             guard.mark(server);
-            note_after(agenda, guard.core(), own, concerned, step.state);
+            note_after(agenda, guard, own, concerned, step.state);
             Ok(step)
         }
         Err(fault) => Err(fault),
@@ -181,7 +179,7 @@ pub(crate) fn spooled<B: Ledger, T: Ledger>(
     let concerned = concerned_by(guard.core(), leg);
     let spooled = guard.spooled(leg, stored);
     if let Ok(step) = &spooled {
-        note_after(agenda, guard.core(), &[], concerned, step.state);
+        note_after(agenda, guard, &[], concerned, step.state);
     }
     spooled
 }
@@ -197,7 +195,7 @@ pub(crate) fn spool_refused<B: Ledger, T: Ledger>(
     let concerned = concerned_by(guard.core(), leg);
     let refused = guard.spool_refused(leg);
     if let Ok(step) = &refused {
-        note_after(agenda, guard.core(), &[], concerned, step.state);
+        note_after(agenda, guard, &[], concerned, step.state);
     }
     refused
 }

@@ -6,7 +6,6 @@ ghost use Rattle.mcv_proxy.specs.Hubs.{MayCross};
 ghost use Rattle.mcv_proxy.specs.Pending.{numbered};
 ghost use Rattle.mcv_proxy.specs.Reports.{IsReport, IsReportOfHubs};
 
-use crate::events::MANY_ENTRIES;
 use crate::fault::ProxyFault;
 use crate::gates::{Gates, Link, Watch};
 use crate::host::{Calls, HubParts, Outfit, Stock, serve_hub};
@@ -161,11 +160,6 @@ fn add_hub<G: Gates, R: Threads + Wait + Clock + Copy + Send + 'static>(
     Ok(())
 }
 
-/// From how many entries on a hub's chapter ends where there are so many hubs.
-fn share_of_entries(hubs: usize) -> usize {
-    MANY_ENTRIES / hubs.max(1)
-}
-
 /// Starts so many hubs, the first of which sends the records again. An error is that there was no memory or no thread for
 /// one; those that were started are in the fleet.
 fn add_hubs<G: Gates, R: Threads + Wait + Clock + Copy + Send + 'static>(
@@ -185,12 +179,12 @@ fn add_hubs<G: Gates, R: Threads + Wait + Clock + Copy + Send + 'static>(
     ensures doors { OnOk result (vec_len fleet.new.doors ≡ hubs) }
 {
     let mut records = records;
-    for _hub in 0..hubs {
+    for hub in 0..hubs {
         let stock = Stock {
             accepted: Arc::try_clone(accepted)?,
             spool: Arc::try_clone(spool)?,
             records: replace(&mut records, Vec::new(alloc)),
-            turn_from: share_of_entries(hubs),
+            hub,
         };
         add_hub(rt, alloc, stock, gates, &ready, fleet)?;
     }

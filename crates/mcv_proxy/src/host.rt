@@ -13,7 +13,7 @@ use crate::threads::{Crew, Done, Shared, Tools, Visitor, admit, server_count, st
 use crossbeam_channel::{Receiver, Sender};
 use mcv_base::ServerId;
 use mcv_check::Accepted;
-use mcv_hub::{Bell, Hub, Pass, Passes, Receipt, Report, Seat};
+use mcv_hub::{Bell, Capacity, Hub, Pass, Passes, Receipt, Report, Seat};
 use mcv_spool::{Disk, Spool, SpoolRecord};
 use std::alloc::{AllocError, Global};
 use std::io::{Read, Write};
@@ -37,8 +37,8 @@ pub(crate) struct Stock<D: Disk> {
     pub(crate) spool: Arc<Mutex<Spool<D>>>,
     /// The records of the spool that this hub sends again, each with its number.
     pub(crate) records: Vec<(u64, SpoolRecord)>,
-    /// From how many entries on its chapter ends once nothing is left of it.
-    pub(crate) turn_from: usize,
+    /// The number of the hub.
+    pub(crate) hub: usize,
 }
 
 /// What is made for a hub by the gates.
@@ -82,12 +82,16 @@ fn open<B: Ledger, T: Ledger, D: Disk>(
         accepted,
         spool,
         records,
-        turn_from,
+        hub,
     } = stock;
     let known = Arc::try_clone(&accepted)?;
     let lanes = Lanes::new(alloc, server_count(&accepted))?;
-    let Ok((hub, passes)) = Hub::new(alloc, known, records.as_slice(), BELLS, SEATS, begun, taken)
-    else {
+    let capacity = Capacity {
+        bells: BELLS,
+        seats: SEATS,
+    };
+    let records = records.as_slice();
+    let Ok((hub, passes)) = Hub::new(alloc, known, hub, records, capacity, begun, taken) else {
         return Err(ProxyFault::Memory);
     };
     let shared = Shared {
@@ -95,7 +99,6 @@ fn open<B: Ledger, T: Ledger, D: Disk>(
         hub,
         lanes,
         spool,
-        turn_from,
         work_ends: Ends::new(),
         spool_ends: Ends::new(),
         ended,

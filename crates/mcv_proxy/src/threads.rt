@@ -38,8 +38,6 @@ pub(crate) struct Shared<B: Ledger, T: Ledger, D: Disk> {
     pub(crate) lanes: Lanes,
     /// That of all hubs.
     pub(crate) spool: Arc<Mutex<Spool<D>>>,
-    /// From how many entries on its chapter ends once nothing is left of it.
-    pub(crate) turn_from: usize,
     /// The end of the servers' workers and of the replayer.
     pub(crate) work_ends: Ends,
     /// The end of the spool's worker, which comes later.
@@ -265,10 +263,7 @@ fn serve<
         watch,
     } = visitor;
     let (hub, lanes) = (&shared.hub, &shared.lanes);
-    let turn_from = shared.turn_from;
-    let mut desk = HubDesk::new(
-        rt, alloc, accepted, hub, lanes, &*links, pass, seat, watch, turn_from,
-    );
+    let mut desk = HubDesk::new(rt, alloc, accepted, hub, lanes, &*links, pass, seat, watch);
     let _ = serve_session(alloc, &mut reader, &mut writer, &mut desk);
     let (seat, receipts) = desk.into_parts();
     // Without memory for that it is joined once no more clients come.

@@ -1,0 +1,32 @@
+-- Which chapters are due.
+use Rattle.std.proofs.Common.{◌≡◌, ◌∙◌, ◌&&◌, ◌||◌, ◌*◌, ◌-◌, ℕ, Bool, false, [], ap, arith, refl}
+use Rattle.std.specs.Prelude.{nat_le, nat_lt}
+use Rattle.std.proofs.lemmas.Grind.{common_steps}
+use Rattle.mcv_core.specs.View.{core_view}
+use Rattle.mcv_core.specs.CoreView.{CoreView}
+use Rattle.mcv_hub.specs.Events.{BeginsChapter}
+use Rattle.mcv_hub.specs.Gate.{due_bytes, is_chapter_due, is_half_full}
+use Rattle.mcv_hub.specs.State.{HubView, IsSame}
+use Rattle.mcv_hub.specs.Weights.{bytes_of}
+
+nothing_held : bytes_of [] ≡ 0
+unfolding bytes_of
+nothing_held = refl
+
+nothing_gained : (n : ℕ) → is_half_full n n ≡ false
+nothing_gained n = let least : nat_lt n n ≡ false = grind (arith, common_steps) in ap (λ b. b && nat_le (1000000 - n) (2 * (n - n))) least
+
+-- one that has only what it opened with isn't
+pub opened_isnt_due : (v : HubView) → v.opened ≡ (core_view v.core).entries → v.history ≡ [] → is_chapter_due v ≡ false
+opened_isnt_due v opened empty =
+    let n = (core_view v.core).entries in
+    ap (λ o. is_half_full o n || nat_le due_bytes (bytes_of v.history)) opened ∙ ap (λ es. is_half_full n n || nat_le due_bytes (bytes_of es)) empty
+    ∙ ap (λ k. is_half_full n n || nat_le due_bytes k) nothing_held ∙ ap (λ b. b || nat_le due_bytes 0) (nothing_gained n)
+
+pub begun_isnt_due : (old new : HubView) → BeginsChapter old new → is_chapter_due new ≡ false
+begun_isnt_due old new h = opened_isnt_due new h.opened h.history
+
+pub same_is_due : (old new : HubView) → IsSame old new → is_chapter_due new ≡ is_chapter_due old
+same_is_due old new h =
+    ap (λ (v : CoreView). is_half_full new.opened v.entries || nat_le due_bytes (bytes_of new.history)) h.core ∙ ap (λ o. is_half_full o (core_view old.core).entries || nat_le due_bytes (bytes_of new.history)) h.books.same.opened
+    ∙ ap (λ es. is_half_full old.opened (core_view old.core).entries || nat_le due_bytes (bytes_of es)) h.history
