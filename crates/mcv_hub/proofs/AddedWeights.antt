@@ -1,9 +1,10 @@
 -- Sums of weights, as `u64`s.
-use Rattle.std.proofs.Common.{◌≡◌, ◌∙◌, cond, ℕ, ◌+◌, ◌-◌, ◌^◌, ◌<◌, ◌≤◌, Bool, List, [], ◌∷◌, ◌++◌, ap, arith, count_by, get_or, length, refl, sym, take, take_all}
+use Rattle.std.proofs.Common.{◌≡◌, ◌∙◌, cond, ℕ, zero, suc, ◌+◌, ◌-◌, ◌^◌, ◌<◌, ◌≤◌, Bool, List, [], ◌∷◌, ◌++◌, ap, arith, count_by, get_or, length, refl, sym, take, take_all}
 use Rattle.std.specs.Prelude.{min, sum_by}
 use Rattle.std.proofs.lemmas.List.Sums.{sum_by_more, sum_by_push}
 use Rattle.mcv_hub.specs.History.{is_began, is_taken}
-use Rattle.mcv_hub.specs.Weights.{bytes_of, capped, weight}
+use Rattle.mcv_base.specs.declared.request.Request.{Request}
+use Rattle.mcv_hub.specs.Weights.{began_bytes, bytes_of, capped, request_bytes, weight}
 use Rattle.mcv_hub.specs.declared.entry.Entry.{Entry}
 
 -- ---- sums of two
@@ -15,6 +16,19 @@ capped_more m n had sum is total = omega (arith, is, total)
 -- or both
 capped_both : (m n : ℕ) → min (capped m + capped n) (2 ^ 64 - 1) ≡ capped (m + n)
 capped_both m n = omega arith
+
+-- an entry by itself, and what it holds
+pub entry_weighs : (n got sum : ℕ) → got ≡ capped n → sum ≡ min (128 + got) (2 ^ 64 - 1) → sum ≡ capped (128 + n)
+entry_weighs n got sum is all = omega (arith, is, all)
+
+-- ---- the request of a call for the first key, and for a later one
+
+pub first_began : (r : Request) (k : ℕ) → k ≡ 0 → capped (request_bytes r) ≡ capped (began_bytes r k)
+first_began r k e = sym (ap (λ n. capped (began_bytes r n)) e)
+
+pub later_began : (r : Request) (k : ℕ) → (k ≡ 0 → ⊥) → 0 ≡ capped (began_bytes r k)
+later_began r zero h = absurd (h refl)
+later_began r (suc k) h = refl
 
 -- ---- over the members of a list, one after the other
 

@@ -1,7 +1,7 @@
 -- What is known once receipts before an index were checked.
 use Rattle.std.proofs.Common.{◌≡◌, ◌∙◌, ◌⊎◌, inl, inr, ℕ, ◌+◌, ◌<◌, ◌≤◌, Bool, true, false, List, [], ◌∷◌, Some, refl, length, get_or, take, take_all, count_by, sym, ap, subst, arith, true≢false}
-use Rattle.std.specs.Prelude.{slice_get, slice_set}
-use Rattle.std.proofs.lemmas.Bool.{cases_eq, cases_lt}
+use Rattle.std.specs.Prelude.{nat_eq, nat_lt, slice_get, slice_set}
+use Rattle.std.proofs.lemmas.Bool.{and_from, and_left, and_right, cases_eq, cases_lt, eq-eqb, le-ltb, lt-ltb, ne_eqb}
 use Rattle.std.proofs.lemmas.Grind.{common_steps}
 use Rattle.std.proofs.lemmas.List.Sums.{count_by_more_no, count_by_more_yes}
 use Rattle.std.proofs.lemmas.Option.{gets, slice_get-get_or, slice_get_within}
@@ -11,6 +11,19 @@ use Rattle.mcv_hub.specs.declared.receipts.Receipt.{Receipt}
 use Rattle.mcv_hub.specs.declared.receipts.ReceiptFault.{ReceiptFault}
 use Rattle.mcv_hub.specs.declared.receipts.ReceiptFault.TheVariants.{Stranger, Twice, Memory}
 use Rattle.mcv_hub.specs.Receipts.{is_older, IsGood, AreGood, AreApart, HasStranger, HasTwice, AreRefused}
+
+-- ---- which receipts are of an earlier chapter
+
+pub is_of_earlier : (hub chapter : ℕ) (r : Receipt) → r.hub ≡ hub → r.chapter < chapter → is_older hub chapter r ≡ true
+is_of_earlier hub chapter r same before = and_from (nat_eq r.hub hub) (nat_lt r.chapter chapter) (eq-eqb r.hub hub same) (lt-ltb r.chapter chapter before)
+
+pub is_of_other_hub : (hub chapter : ℕ) (r : Receipt) → (r.hub ≡ hub → ⊥) → is_older hub chapter r ≡ false
+is_of_other_hub hub chapter r other = and_left (nat_eq r.hub hub) (nat_lt r.chapter chapter) (ne_eqb r.hub hub other)
+
+pub isnt_of_earlier : (hub chapter : ℕ) (r : Receipt) → chapter ≤ r.chapter → is_older hub chapter r ≡ false
+isnt_of_earlier hub chapter r late = and_right (nat_eq r.hub hub) (nat_lt r.chapter chapter) (le-ltb r.chapter chapter late)
+
+-- ---- what was checked
 
 -- a receipt before the index, of this hub and chapter, names the entry
 pub record IsNamed (hub chapter : ℕ) (receipts : List Receipt) (index entry : ℕ) : Type 0 where

@@ -1,20 +1,22 @@
 -- Which chapters are due.
 use Rattle.std.proofs.Common.{◌≡◌, ◌∙◌, ◌&&◌, ◌||◌, ◌*◌, ◌-◌, ℕ, Bool, false, [], ap, arith, refl}
 use Rattle.std.specs.Prelude.{nat_le, nat_lt}
-use Rattle.std.proofs.lemmas.Grind.{common_steps}
+use Rattle.std.proofs.lemmas.Bool.{le-ltb}
 use Rattle.mcv_core.specs.View.{core_view}
 use Rattle.mcv_core.specs.CoreView.{CoreView}
 use Rattle.mcv_hub.specs.Events.{BeginsChapter}
-use Rattle.mcv_hub.specs.Gate.{due_bytes, is_chapter_due, is_half_full}
+use Rattle.mcv_hub.specs.Gate.{IsGate, due_bytes, is_chapter_due, is_closed, is_half_full}
 use Rattle.mcv_hub.specs.State.{HubView, IsSame}
 use Rattle.mcv_hub.specs.Weights.{bytes_of}
+use Rattle.mcv_hub.specs.declared.gate.Gate.{Gate}
+use Rattle.mcv_hub.specs.declared.gate.Gate.TheVariants as gates
 
 nothing_held : bytes_of [] ≡ 0
 unfolding bytes_of
 nothing_held = refl
 
 nothing_gained : (n : ℕ) → is_half_full n n ≡ false
-nothing_gained n = let least : nat_lt n n ≡ false = grind (arith, common_steps) in ap (λ b. b && nat_le (1000000 - n) (2 * (n - n))) least
+nothing_gained n = let least : nat_lt n n ≡ false = le-ltb n n (omega arith) in ap (λ b. b && nat_le (1000000 - n) (2 * (n - n))) least
 
 -- one that has only what it opened with isn't
 pub opened_isnt_due : (v : HubView) → v.opened ≡ (core_view v.core).entries → v.history ≡ [] → is_chapter_due v ≡ false
@@ -30,3 +32,9 @@ pub same_is_due : (old new : HubView) → IsSame old new → is_chapter_due new 
 same_is_due old new h =
     ap (λ (v : CoreView). is_half_full new.opened v.entries || nat_le due_bytes (bytes_of new.history)) h.core ∙ ap (λ o. is_half_full o (core_view old.core).entries || nat_le due_bytes (bytes_of new.history)) h.books.same.opened
     ∙ ap (λ es. is_half_full old.opened (core_view old.core).entries || nat_le due_bytes (bytes_of es)) h.history
+
+-- where calls are kept waiting the next one is due, and else it isn't
+pub gate_is_due : (old new : HubView) (gate : Gate) → IsGate old gate new → is_chapter_due new ≡ is_closed gate
+gate_is_due old new gates.Open h = same_is_due old new h.1 ∙ h.0
+gate_is_due old new (gates.Turned past) h = begun_isnt_due old new h.1
+gate_is_due old new gates.Closed h = same_is_due old new h.1.same ∙ h.0

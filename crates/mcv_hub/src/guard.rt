@@ -107,6 +107,18 @@ impl<'a, B: Ledger, T: Ledger> Guard<'a, B, T> {
         self.state.gate(alloc)
     }
 
+    /// Whether a call has waited for the next chapter in vain, in this one.
+    pub(crate) fn was_awaited_in_vain(&self) -> bool {
+        self.state.was_awaited_in_vain()
+    }
+
+    /// A call has waited for the next chapter in vain.
+    pub(crate) fn note_vain_wait(&mut self)
+        ensures { IsSame self.old self.new }
+    {
+        self.state.note_vain_wait()
+    }
+
     /// Begins a call for one key of the request, counted from 0, and counts it in the seat's share. An error is that of the
     /// core, ChapterFull also where the history holds more than 256 MiB, and Memory where it gets no room.
     pub fn begin(

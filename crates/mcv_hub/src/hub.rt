@@ -19,7 +19,7 @@ use std::sync::ledger::{Blank, Ledger};
 use std::sync::{Arc, Condvar, Mutex, Wait};
 use std::time::{Duration, Instant};
 
-/// How long a call that waits for the next chapter sleeps at most, in milliseconds, until it looks again.
+/// How long a call that waits for the next chapter sleeps at most, in milliseconds, until it looks again, should nobody ring.
 const PAUSE: u64 = 10;
 
 /// How often the lock is tried before a thread sleeps until it is free: for four microseconds or more.
@@ -152,8 +152,9 @@ impl<B: Ledger, T: Ledger> Hub<B, T> {
         guard.wait_at_for(rt, self.bell(bell), most)
     }
 
-    /// Waits, for as long as this at most, until a call may begin: where the next chapter is due, until nothing is left of this
-    /// one. The first that finds nothing left begins the next chapter. Closed where the wait was in vain.
+    /// Waits until a call may begin: where the next chapter is due, until nothing is left of this one. The first that finds
+    /// nothing left begins the next chapter (Turned), and is to ring that bell once it has let go of the lock. A call that has
+    /// waited for as long as this in vain (Closed) begins in this chapter, and so do all others at once until the next one.
     pub fn enter<'a, R: Wait + Clock>(
         &self,
         rt: &R,
@@ -167,7 +168,11 @@ impl<B: Ledger, T: Ledger> Hub<B, T> {
         let mut patience = Patience { most, since: None };
         for _attempt in rt.forever() {
             let gate = guard.gate(alloc);
-            if !gate.is_closed() || patience.is_over(rt) {
+            if !gate.is_closed() || guard.was_awaited_in_vain() {
+                return (guard, gate);
+            }
+            if patience.is_over(rt) {
+                guard.note_vain_wait();
                 return (guard, gate);
             }
             guard = self.wait_for(rt, guard, Bell::Chapter, Duration::from_millis(PAUSE));

@@ -44,6 +44,7 @@ pub enum ReceiptFault {
 
 /// Whether a receipt is one of an earlier chapter of the hub. Any other one is good, names an entry that wasn't seen before, and is
 /// seen now.
+#[tactic(auto, using(crate::proofs::CheckedReceipts::is_of_earlier, crate::proofs::CheckedReceipts::is_of_other_hub, crate::proofs::CheckedReceipts::isnt_of_earlier))]
 fn check_receipt(
     history: &[Entry],
     hub: usize,

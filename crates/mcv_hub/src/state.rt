@@ -1,6 +1,6 @@
 //! What lies under the lock.
 
-ghost use Rattle.std.specs.Prelude.{◌≡◌, ◌+◌, ◌<◌, ◌≤◌, ◌^◌, ◌⊎◌, [], false, IfOk, OnOk, IfErr, IfSome, count_by, vec_len, vec_capacity, None, MatchOption};
+ghost use Rattle.std.specs.Prelude.{◌≡◌, ◌+◌, ◌<◌, ◌≤◌, ◌^◌, ◌⊎◌, ◌||◌, [], false, IfOk, OnOk, IfErr, IfSome, count_by, nat_le, vec_len, vec_capacity, None, MatchOption};
 ghost use Rattle.std.specs.Arc.{arc_value};
 ghost use Rattle.mcv_pools.specs.Hash.{fnv_index};
 ghost use Rattle.mcv_symbolic.specs.CoveredRoutes.{AreCovered};
@@ -9,7 +9,7 @@ ghost use Rattle.mcv_core.specs.Opening.{opened_view};
 ghost use Rattle.mcv_core.specs.View.{core_view};
 ghost use Rattle.mcv_core.specs.declared.fault.CoreFault.TheVariants.{Memory as OutOfMemory};
 ghost use Rattle.mcv_hub.specs.Events.{IsHubEvent, IsReceived, IsRequested, taken_part};
-ghost use Rattle.mcv_hub.specs.Gate.{IsGate, IsHubBegun, IsHubTurn, is_chapter_due, is_half_full};
+ghost use Rattle.mcv_hub.specs.Gate.{IsGate, IsHubBegun, IsHubTurn, due_bytes, is_chapter_due, is_half_full};
 ghost use Rattle.mcv_hub.specs.History.{is_began, is_taken};
 ghost use Rattle.mcv_hub.specs.RemainingEntries.{break_count};
 ghost use Rattle.mcv_hub.specs.Receipts.{ArePassed, AreRefused};
@@ -64,6 +64,8 @@ pub struct HubState<B: Ledger, T: Ledger> {
     taken: Book<T>,
     begun_before: u64,
     taken_before: u64,
+    /// Whether a call has waited for the next chapter in vain.
+    awaited_in_vain: bool,
 }
 
 impl<B: Ledger, T: Ledger> Model for HubState<B, T> {
@@ -143,6 +145,13 @@ fn is_half_full(opened: usize, entries: usize) -> bool
     gained > 0 && room - room / 2 <= gained
 }
 
+/// Whether the next chapter is due where this one opened with so many entries, and has so many, which hold so many bytes.
+fn is_due_with(opened: usize, entries: usize, bytes: u64) -> bool
+    ensures { result ≡ (is_half_full opened entries || nat_le due_bytes bytes) }
+{
+    is_half_full(opened, entries) || bytes >= DUE_BYTES
+}
+
 impl<B: Ledger, T: Ledger> HubState<B, T> {
     ghost use Rattle.mcv_hub.specs.State.{HistoryKeepsDeletes, IsCallOf, IsSame};
 
@@ -188,6 +197,7 @@ impl<B: Ledger, T: Ledger> HubState<B, T> {
             taken,
             begun_before: 0,
             taken_before: 0,
+            awaited_in_vain: false,
         };
         Ok((state, begun_share, taken_share))
     }
@@ -203,7 +213,8 @@ impl<B: Ledger, T: Ledger> HubState<B, T> {
     pub(crate) fn is_due(&self) -> bool
         ensures { result ≡ is_chapter_due self.now }
     {
-        is_half_full(self.opened, self.core.state().entries()) || self.history.bytes() >= DUE_BYTES
+        let entries = self.core.state().entries();
+        is_due_with(self.opened, entries, self.history.bytes())
     }
 
     /// A call begins, and is counted in the seat's share; where the history holds too many bytes none does.
@@ -220,7 +231,7 @@ impl<B: Ledger, T: Ledger> HubState<B, T> {
         ensures taken { seat.new.taken.amount + self.old.taken ≡ seat.old.taken.amount + self.new.taken }
         ensures parts { (seat.new.begun.parts ≡ seat.old.begun.parts) × (seat.new.taken.parts ≡ seat.old.taken.parts) }
     {
-        if self.history.bytes() > MOST_BYTES {
+        if self.bytes() > MOST_BYTES {
             return Err(CoreFault::ChapterFull);
         }
         self.begin_call(alloc, seat, request, key)
@@ -419,7 +430,20 @@ impl<B: Ledger, T: Ledger> HubState<B, T> {
         self.opened = opened;
         self.begun_before = begun;
         self.taken_before = taken;
+        self.awaited_in_vain = false;
         Ok(past)
+    }
+
+    /// Whether a call has waited for the next chapter in vain, in this one.
+    pub(crate) fn was_awaited_in_vain(&self) -> bool {
+        self.awaited_in_vain
+    }
+
+    /// A call has waited for the next chapter in vain.
+    pub(crate) fn note_vain_wait(&mut self)
+        ensures { IsSame self.old self.new }
+    {
+        self.awaited_in_vain = true;
     }
 
     /// How many calls were begun and replies taken in all chapters.

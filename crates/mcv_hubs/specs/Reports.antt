@@ -1,5 +1,5 @@
 -- What hubs report once all sessions have ended (own).
-use Rattle.std.specs.Prelude.{◌≡◌, ◌+◌, ◌<◌, ℕ, List, [], ◌∷◌, ⊤, All, filter, map, nat_eq, sum_by}
+use Rattle.std.specs.Prelude.{◌≡◌, ◌+◌, ◌<◌, ◌⊎◌, ℕ, List, [], ◌∷◌, Result, Ok, Err, ⊤, All, filter, fold, nat_eq}
 use Rattle.mcv_core.specs.View.{core_view}
 use Rattle.mcv_hub.specs.Receipts.{ArePassed, AreRefused}
 use Rattle.mcv_hub.specs.State.{HistoryKeepsDeletes, HubView}
@@ -8,54 +8,62 @@ use Rattle.mcv_hub.specs.declared.receipts.Receipt.{Receipt}
 use Rattle.mcv_hub.specs.declared.receipts.ReceiptFault.{ReceiptFault}
 use Rattle.mcv_hub.specs.declared.receipts.ReceiptFault.TheVariants as faults
 use Rattle.mcv_hub.specs.declared.receipts.Report.{Report}
-use Rattle.mcv_hubs.specs.Counts.{SeatsView, at_each}
+use Rattle.mcv_hubs.specs.Counts.{Tally}
 
--- ---- one hub
+-- ---- one hub, whose books have these parts
 
--- under its lock, in a state in which deletes are kept, its books counted this, and these receipts passed
-pub record IsReportOf (receipts : List Receipt) (report : Report) : Type 0 where
+-- under its lock, in a state in which deletes are kept, its books counted this, and these receipts passed; shares that have all parts of
+-- a book counted the same
+pub record IsReportOf (begun_parts taken_parts : ℕ) (receipts : List Receipt) (t : Tally) (report : Report) : Type 0 where
   pub state : HubView
   pub keeps : HistoryKeepsDeletes (core_view state.core) state.history
   pub begun : report.begun ≡ state.begun
   pub taken : report.taken ≡ state.taken
   pub passed : ArePassed state.hub state.chapter state.history receipts report.older
+  pub all_begun : t.begun_parts ≡ begun_parts → report.begun ≡ t.begun
+  pub all_taken : t.taken_parts ≡ taken_parts → report.taken ≡ t.taken
 
--- or they were refused
-pub record IsRefusalOf (receipts : List Receipt) (fault : ReceiptFault) : Type 0 where
+-- under its lock they were refused
+pub record WereRefused (receipts : List Receipt) (fault : ReceiptFault) : Type 0 where
   pub state : HubView
   pub refused : AreRefused state.hub state.chapter state.history receipts fault
+
+-- its answer. Memory may run out before it is asked
+abbrev pub IsAnswerOf : (begun_parts taken_parts : ℕ) → List Receipt → Tally → Result Report ReceiptFault → Type 0
+IsAnswerOf begun_parts taken_parts receipts t (Ok report) = IsReportOf begun_parts taken_parts receipts t report
+IsAnswerOf begun_parts taken_parts receipts t (Err fault) = (fault ≡ faults.Memory) ⊎ WereRefused receipts fault
 
 -- ---- all hubs
 
 abbrev pub receipts_at : (hub : ℕ) → List Receipt → List Receipt
 receipts_at hub receipts = filter (λ r. nat_eq r.hub hub) receipts
 
--- the reports of the hubs from this number on, each of the receipts that name it
-abbrev pub AreReportsFrom : (hub : ℕ) → List Receipt → List Report → Type 0
-AreReportsFrom hub receipts [] = ⊤
-AreReportsFrom hub receipts (report ∷ reports) = IsReportOf (receipts_at hub receipts) report × AreReportsFrom (hub + 1) receipts reports
+-- the answers of the hubs from this number on, each on the receipts that name it
+abbrev pub AreAnswersFrom : (begun_parts taken_parts hub : ℕ) → List Receipt → List Tally → List (Result Report ReceiptFault) → Type 0
+AreAnswersFrom begun_parts taken_parts hub receipts [] [] = ⊤
+AreAnswersFrom begun_parts taken_parts hub receipts [] (answer ∷ answers) = ⊥
+AreAnswersFrom begun_parts taken_parts hub receipts (t ∷ ts) [] = ⊥
+AreAnswersFrom begun_parts taken_parts hub receipts (t ∷ ts) (answer ∷ answers) =
+    IsAnswerOf begun_parts taken_parts (receipts_at hub receipts) t answer × AreAnswersFrom begun_parts taken_parts (hub + 1) receipts ts answers
 
--- added up; a count that is too large for 64 bits is 2^64 - 1
-pub record IsSum (reports : List Report) (report : Report) : Type 0 where
-  pub begun : report.begun ≡ capped (sum_by (λ one. one.begun) reports)
-  pub taken : report.taken ≡ capped (sum_by (λ one. one.taken) reports)
-  pub older : report.older ≡ capped (sum_by (λ one. one.older) reports)
+-- a count that is too large for 64 bits is 2^64 - 1
+abbrev pub sum_of_two : Report → Report → Report
+sum_of_two p q = record { begun = capped (p.begun + q.begun); taken = capped (p.taken + q.taken); older = capped (p.older + q.older) }
 
--- all hubs are closed: this is the sum of their reports, which count what was counted with the seats, where these have all parts of the
--- hubs' books
-pub record AreClosed (receipts : List Receipt) (begun_parts taken_parts : ℕ) (seats : SeatsView) (report : Report) : Type 0 where
-  pub reports : List Report
-  pub each : AreReportsFrom 0 receipts reports
-  pub begun : seats.begun_parts ≡ at_each begun_parts → map (λ one. one.begun) reports ≡ seats.begun
-  pub taken : seats.taken_parts ≡ at_each taken_parts → map (λ one. one.taken) reports ≡ seats.taken
-  pub sum : IsSum reports report
+-- both reports, added up; where one is refused, the first refusal
+abbrev pub both : Result Report ReceiptFault → Result Report ReceiptFault → Result Report ReceiptFault
+both (Ok p) (Ok q) = Ok (sum_of_two p q)
+both (Ok p) (Err fault) = Err fault
+both (Err fault) answer = Err fault
+
+abbrev pub together : List (Result Report ReceiptFault) → Result Report ReceiptFault
+together answers = fold both (Ok (record { begun = 0; taken = 0; older = 0 })) answers
 
 -- each receipt names one of the eight
 abbrev pub AreOfHubs : List Receipt → Type 0
 AreOfHubs receipts = All (λ r. r.hub < 8) receipts
 
--- they aren't: one names no hub, those of one hub are refused there, or memory ran out
-pub data AreUnclosed (receipts : List Receipt) (fault : ReceiptFault) : Type 0 where
-  unknown : (AreOfHubs receipts → ⊥) → fault ≡ faults.Stranger → AreUnclosed receipts fault
-  refused : (hub : ℕ) → hub < 8 → IsRefusalOf (receipts_at hub receipts) fault → AreUnclosed receipts fault
-  short : fault ≡ faults.Memory → AreUnclosed receipts fault
+-- some receipt names no hub; or each hub answers on those that name it, and this is the sum, or the first refusal
+pub data IsClosing (begun_parts taken_parts : ℕ) (receipts : List Receipt) (ts : List Tally) (result : Result Report ReceiptFault) : Type 0 where
+  unknown : (AreOfHubs receipts → ⊥) → result ≡ Err faults.Stranger → IsClosing begun_parts taken_parts receipts ts result
+  known : AreOfHubs receipts → (answers : List (Result Report ReceiptFault)) → AreAnswersFrom begun_parts taken_parts 0 receipts ts answers → result ≡ together answers → IsClosing begun_parts taken_parts receipts ts result

@@ -1,10 +1,10 @@
 //! Which hub a key has.
 
 ghost use Rattle.std.specs.Prelude.{◌≡◌, ◌<◌, ◌≤◌, None, IfOk, IfSome};
-ghost use Rattle.mcv_core.specs.Asking.{HasNoKey};
-ghost use Rattle.mcv_hubs.specs.Choice.{IsHubOf, IsRestOf, hub_number, records_at};
+ghost use Rattle.mcv_core.specs.Asking.{HasNoKey, IsKeyOf};
+ghost use Rattle.mcv_hubs.specs.Choice.{IsHubOf, hub_number, records_at};
 
-use mcv_base::{Request, Rest, split_key};
+use mcv_base::{Op, Request, Rest, cut_key};
 use mcv_pools::{Fnv, HashFunc, KeyHash, Symbol};
 use mcv_spool::SpoolRecord;
 use std::alloc::{AllocError, Global};
@@ -21,7 +21,7 @@ pub struct HubChoice {
 }
 
 impl Model for HubChoice {
-    ghost use Rattle.std.specs.Prelude.{ℕ, ◌≡◌, ◌≤◌, [], List};
+    ghost use Rattle.std.specs.Prelude.{ℕ, ◌≡◌, ◌<◌, ◌≤◌, []};
     ghost use Rattle.std.specs.Coded.{coded_ℕ};
 
     ghost Value = { ℕ };
@@ -30,7 +30,7 @@ impl Model for HubChoice {
 
     ghost view = { λ c. c.symbol.n };
 
-    ghost invariant = { λ c. (c.symbol.salt ≡ []) × (c.symbol.n ≤ 8) };
+    ghost invariant = { λ c. (c.symbol.salt ≡ []) × (0 < c.symbol.n) × (c.symbol.n ≤ 8) };
 }
 
 impl HubChoice {
@@ -42,8 +42,10 @@ impl HubChoice {
         if hubs > MOST_HUBS {
             return None;
         }
-        let symbol = Symbol::new(HashFunc::Ch3, Vec::new(alloc), hubs)?;
-        Some(HubChoice { symbol })
+        match Symbol::new(HashFunc::Ch3, Vec::new(alloc), hubs) {
+            Some(symbol) => Some(HubChoice { symbol }),
+            None => None,
+        }
     }
 
     /// How many hubs there are.
@@ -60,17 +62,26 @@ impl HubChoice {
         ensures hub { result ≡ hub_number self.now rest.now }
         ensures there { result < self.now }
     {
-        Fnv.index(&self.symbol, rest.as_bytes())
+        self.hub_of_bytes(rest.as_bytes())
+    }
+
+    /// The number of the hub of a rest of these bytes.
+    fn hub_of_bytes(&self, rest: &[u8]) -> usize
+        ensures hub { result ≡ hub_number self.now rest.now }
+        ensures there { result < self.now }
+        ensures most { self.now ≤ 8 }
+    {
+        Fnv.index(&self.symbol, rest)
     }
 
     /// The number of the hub of one key of a request, counted from 0; that of a word that is no key is 0.
     pub fn hub_of_key(&self, request: &Request, key: usize) -> usize
         ensures hub { IsHubOf self.now request.now key result }
-        ensures there { result < self.now }
+        ensures there { result < 8 }
     {
-        match rest_of(request, key) {
-            Some(rest) => self.hub_of(&rest),
-            None => first_hub(self.hubs()),
+        match key_of(request, key) {
+            Some((_op, _prefix, rest)) => self.hub_of_bytes(rest),
+            None => 0,
         }
     }
 
@@ -93,26 +104,17 @@ impl HubChoice {
     }
 }
 
-/// The hub of what has no key.
-fn first_hub(hubs: usize) -> usize
-    requires { 0 < hubs }
-    ensures first { result ≡ 0 }
-    ensures there { result < hubs }
-{
-    0
-}
-
-/// The rest of one key of a request, counted from 0.
-fn rest_of(request: &Request, key: usize) -> Option<Rest>
-    ensures some { IfSome result (λ rest. IsRestOf request.now key rest) }
+/// The operation of a request, and the prefix and the rest of one of its keys, counted from 0.
+fn key_of(request: &Request, key: usize) -> Option<(Op, &[u8], &[u8])>
+    ensures some { IfSome result (λ k. IsKeyOf request.now key k.0 k.1.now k.2.now) }
     ensures none { result ≡ None → HasNoKey request.now key }
 {
     let Request::Ask(ask) = request else {
         return None;
     };
     let word = ask.keys.get(key)?;
-    match split_key(word.as_slice()) {
-        Ok((_prefix, rest)) => Some(rest),
+    match cut_key(word.as_slice()) {
+        Ok((prefix, rest)) => Some((ask.op, prefix, rest)),
         Err(_) => None,
     }
 }

@@ -1,8 +1,8 @@
 //! The end of all hubs.
 
-ghost use Rattle.std.specs.Prelude.{◌≡◌, ◌+◌, ◌<◌, ◌⊎◌, [], ◌∷◌, IfErr, IfOk, IsTrue, ◌↔◌};
-ghost use Rattle.mcv_hub.specs.Weights.{capped};
-ghost use Rattle.mcv_hubs.specs.Reports.{AreClosed, AreOfHubs, AreUnclosed, IsRefusalOf, IsReportOf, IsSum, receipts_at};
+ghost use Rattle.std.specs.Prelude.{◌≡◌, IfOk, IsTrue, ◌↔◌};
+ghost use Rattle.mcv_hubs.specs.Counts.{tally};
+ghost use Rattle.mcv_hubs.specs.Reports.{AreOfHubs, IsAnswerOf, IsClosing, both, receipts_at, sum_of_two};
 
 use crate::choice::MOST_HUBS;
 use crate::hubs::Hubs;
@@ -35,10 +35,8 @@ fn are_of_hubs(receipts: &[Receipt]) -> bool
 }
 
 /// Two reports, added up.
-fn sum(one: Report, other: Report) -> Report
-    ensures begun { result.begun ≡ capped (one.begun + other.begun) }
-    ensures taken { result.taken ≡ capped (one.taken + other.taken) }
-    ensures older { result.older ≡ capped (one.older + other.older) }
+fn sum_of_two(one: Report, other: Report) -> Report
+    ensures { result ≡ sum_of_two one other }
 {
     Report {
         begun: one.begun.saturating_add(other.begun),
@@ -47,46 +45,43 @@ fn sum(one: Report, other: Report) -> Report
     }
 }
 
-/// All reports, added up.
-fn sum_of(reports: &[Report]) -> Report
-    ensures { IsSum reports.now result }
+/// Two reports, added up; where one is refused, the first refusal.
+fn both(
+    one: Result<Report, ReceiptFault>,
+    other: Result<Report, ReceiptFault>,
+) -> Result<Report, ReceiptFault>
+    ensures { result ≡ both one other }
 {
-    let mut total = Report {
-        begun: 0,
-        taken: 0,
-        older: 0,
-    };
-    for report in reports {
-        total = sum(total, *report);
+    match one {
+        Ok(one) => match other {
+            Ok(other) => Ok(sum_of_two(one, other)),
+            Err(fault) => Err(fault),
+        },
+        Err(fault) => Err(fault),
     }
-    total
 }
 
-/// The report of one hub on the receipts that name it.
+/// The answer of one hub, which has this number, on the receipts that name it.
 fn close_one<B: Ledger, T: Ledger, R: Wait>(
     rt: &R,
     alloc: Global,
     hub: &Hub<B, T>,
     pass: &mut Pass,
     seat: &mut Seat<B, T>,
-    all: (&[Receipt], usize),
+    named: (&[Receipt], usize),
 ) -> Result<Report, ReceiptFault>
-    ensures ok { IfOk result (IsReportOf (receipts_at all.entry.1 all.entry.0.now)) }
-    ensures err { IfErr result (λ fault. (fault ≡ ReceiptFault.Memory) ⊎ IsRefusalOf (receipts_at all.entry.1 all.entry.0.now) fault) }
-    ensures begun { seat.old.begun.parts ≡ B.parts → IfOk result (λ p. p.begun ≡ seat.old.begun.amount) }
-    ensures taken { seat.old.taken.parts ≡ T.parts → IfOk result (λ p. p.taken ≡ seat.old.taken.amount) }
-    ensures same { (seat.new.begun.amount ≡ seat.old.begun.amount) × (seat.new.taken.amount ≡ seat.old.taken.amount) × (seat.new.begun.parts ≡ seat.old.begun.parts) × (seat.new.taken.parts ≡ seat.old.taken.parts) }
+    ensures answer { IsAnswerOf B.parts T.parts (receipts_at named.entry.1 named.entry.0.now) (tally seat.old.begun.amount seat.old.taken.amount seat.old.begun.parts seat.old.taken.parts) result }
+    ensures same { tally seat.new.begun.amount seat.new.taken.amount seat.new.begun.parts seat.new.taken.parts ≡ tally seat.old.begun.amount seat.old.taken.amount seat.old.begun.parts seat.old.taken.parts }
 {
-    let Ok(receipts) = receipts_at(alloc, all.0, all.1) else {
-        return Err(ReceiptFault::Memory);
-    };
-    one::close(rt, alloc, hub, pass, seat, receipts.as_slice())
+    match receipts_at(alloc, named.0, named.1) {
+        Ok(receipts) => one::close(rt, alloc, hub, pass, seat, receipts.as_slice()),
+        Err(_) => Err(ReceiptFault::Memory),
+    }
 }
 
 impl<F: Names, G: Names> Hubs<F, G> {
     /// Closes the books of all hubs, one after the other: what all of them counted, where each receipt names a hub and passes
-    /// there. Stranger is looked for first where one names no hub, and then the faults of each hub, the first one before the
-    /// others.
+    /// there. Where one names no hub it is Stranger; else each hub answers on its own receipts, and the first refusal counts.
     pub fn close<R: Wait>(
         &self,
         rt: &R,
@@ -95,23 +90,33 @@ impl<F: Names, G: Names> Hubs<F, G> {
         seats: &mut Seats<F, G>,
         receipts: &[Receipt],
     ) -> Result<Report, ReceiptFault>
-        ensures ok { IfOk result (AreClosed receipts.now F.parts_of G.parts_of seats.old) }
-        ensures err { IfErr result (AreUnclosed receipts.now) }
+        ensures closing { IsClosing F.parts_of G.parts_of receipts.now seats.old result }
         ensures same { seats.new ≡ seats.old }
     {
         if !are_of_hubs(receipts) {
             return Err(ReceiptFault::Stranger);
         }
-        let reports = [
-            close_one(rt, alloc, &self.hub0, pass, &mut seats.seat0, (receipts, 0))?,
-            close_one(rt, alloc, &self.hub1, pass, &mut seats.seat1, (receipts, 1))?,
-            close_one(rt, alloc, &self.hub2, pass, &mut seats.seat2, (receipts, 2))?,
-            close_one(rt, alloc, &self.hub3, pass, &mut seats.seat3, (receipts, 3))?,
-            close_one(rt, alloc, &self.hub4, pass, &mut seats.seat4, (receipts, 4))?,
-            close_one(rt, alloc, &self.hub5, pass, &mut seats.seat5, (receipts, 5))?,
-            close_one(rt, alloc, &self.hub6, pass, &mut seats.seat6, (receipts, 6))?,
-            close_one(rt, alloc, &self.hub7, pass, &mut seats.seat7, (receipts, 7))?,
-        ];
-        Ok(sum_of(&reports))
+        let total = Ok(Report {
+            begun: 0,
+            taken: 0,
+            older: 0,
+        });
+        let answer0 = close_one(rt, alloc, &self.hub0, pass, &mut seats.seat0, (receipts, 0));
+        let total = both(total, answer0);
+        let answer1 = close_one(rt, alloc, &self.hub1, pass, &mut seats.seat1, (receipts, 1));
+        let total = both(total, answer1);
+        let answer2 = close_one(rt, alloc, &self.hub2, pass, &mut seats.seat2, (receipts, 2));
+        let total = both(total, answer2);
+        let answer3 = close_one(rt, alloc, &self.hub3, pass, &mut seats.seat3, (receipts, 3));
+        let total = both(total, answer3);
+        let answer4 = close_one(rt, alloc, &self.hub4, pass, &mut seats.seat4, (receipts, 4));
+        let total = both(total, answer4);
+        let answer5 = close_one(rt, alloc, &self.hub5, pass, &mut seats.seat5, (receipts, 5));
+        let total = both(total, answer5);
+        let answer6 = close_one(rt, alloc, &self.hub6, pass, &mut seats.seat6, (receipts, 6));
+        let total = both(total, answer6);
+        let answer7 = close_one(rt, alloc, &self.hub7, pass, &mut seats.seat7, (receipts, 7));
+        let total = both(total, answer7);
+        total
     }
 }

@@ -1,12 +1,11 @@
 //! The hubs of a proxy.
 
-ghost use Rattle.std.specs.Prelude.{◌≡◌, ◌+◌, ◌<◌, None, IfErr, IfOk, IfSome, OnErr, OnOk};
+ghost use Rattle.std.specs.Prelude.{◌≡◌, ◌+◌, ◌<◌, ◌≤◌, IfErr, IfOk};
 ghost use Rattle.std.specs.Arc.{arc_value};
 ghost use Rattle.mcv_core.specs.declared.fault.CoreFault.TheVariants.{Memory as OutOfMemory};
 ghost use Rattle.mcv_hubs.specs.Blanks.{AreOf};
-ghost use Rattle.mcv_hubs.specs.Choice.{IsHubOf};
-ghost use Rattle.mcv_hubs.specs.Counts.{one_more};
-ghost use Rattle.mcv_hubs.specs.Taken.{WasTaken};
+ghost use Rattle.mcv_hubs.specs.Counts.{begun_by, change_at, taken_by};
+ghost use Rattle.mcv_hubs.specs.Taken.{IsBegunAt, WasBegun, WasTaken};
 
 use crate::choice::HubChoice;
 use crate::names::{At, Blanks, Names};
@@ -134,7 +133,8 @@ impl<F: Names, G: Names> Hubs<F, G> {
         Ok((hubs, passes))
     }
 
-    /// Begins a call for one key of the request, counted from 0, at the hub of that key.
+    /// Begins a call for one key of the request, counted from 0, at the hub of that key. Where that hub's next chapter is due
+    /// it waits for it, as `Hub::enter`, for a second at most.
     pub fn begin<R: Wait + Clock>(
         &self,
         rt: &R,
@@ -143,15 +143,13 @@ impl<F: Names, G: Names> Hubs<F, G> {
         seats: &mut Seats<F, G>,
         asked: (Arc<Request>, usize),
     ) -> Result<HubCall, CoreFault>
-        ensures hub { IfOk result (λ c. IsHubOf self.now.choice (arc_value asked.0) asked.1 c.hub) }
-        ensures begun { IfOk result (λ c. seats.new.begun ≡ one_more c.hub seats.old.begun) }
-        ensures unbegun { OnErr result (seats.new.begun ≡ seats.old.begun) }
-        ensures taken { seats.new.taken ≡ seats.old.taken }
-        ensures parts { (seats.new.begun_parts ≡ seats.old.begun_parts) × (seats.new.taken_parts ≡ seats.old.taken_parts) }
+        ensures { IsBegunAt self.now.choice (arc_value asked.0) asked.1 seats.old result seats.new }
     {
         let hub = self.choice.hub_of_key(&asked.0, asked.1);
-        let call = self.begin_at(rt, alloc, pass, seats, hub, asked)?;
-        Ok(HubCall { hub, call })
+        match self.begin_at(rt, alloc, pass, seats, hub, asked) {
+            Ok(call) => Ok(HubCall { hub, call }),
+            Err(fault) => Err(fault),
+        }
     }
 
     /// Begins a call at the hub of this number.
@@ -165,10 +163,8 @@ impl<F: Names, G: Names> Hubs<F, G> {
         asked: (Arc<Request>, usize),
     ) -> Result<CallId, CoreFault>
         requires { hub < 8 }
-        ensures begun { OnOk result (seats.new.begun ≡ one_more hub seats.old.begun) }
-        ensures unbegun { OnErr result (seats.new.begun ≡ seats.old.begun) }
-        ensures taken { seats.new.taken ≡ seats.old.taken }
-        ensures parts { (seats.new.begun_parts ≡ seats.old.begun_parts) × (seats.new.taken_parts ≡ seats.old.taken_parts) }
+        ensures event { WasBegun (arc_value asked.0) asked.1 result }
+        ensures counted { seats.new ≡ change_at hub (begun_by result) seats.old }
     {
         match hub {
             0 => one::begin(rt, alloc, &self.hub0, pass, &mut seats.seat0, asked),
@@ -192,11 +188,9 @@ impl<F: Names, G: Names> Hubs<F, G> {
         seats: &mut Seats<F, G>,
         call: HubCall,
     ) -> Result<Option<TakenReply>, CoreFault>
-        ensures taken { IfOk result (λ o. IfSome o (λ t. WasTaken call.call t × (seats.new.taken ≡ one_more call.hub seats.old.taken))) }
-        ensures none { result ≡ Ok None → seats.new.taken ≡ seats.old.taken }
-        ensures err { OnErr result (seats.new.taken ≡ seats.old.taken) }
-        ensures begun { seats.new.begun ≡ seats.old.begun }
-        ensures parts { (seats.new.begun_parts ≡ seats.old.begun_parts) × (seats.new.taken_parts ≡ seats.old.taken_parts) }
+        ensures event { call.hub < 8 → WasTaken call.call result }
+        ensures unknown { 8 ≤ call.hub → result ≡ Err CoreFault.NoSuchCall }
+        ensures counted { seats.new ≡ change_at call.hub (taken_by result) seats.old }
     {
         let number = call.call;
         match call.hub {

@@ -1,7 +1,7 @@
 //! What a session has of all hubs.
 
-ghost use Rattle.std.specs.Prelude.{◌≡◌, ◌+◌, IfNone, IfSome};
-ghost use Rattle.mcv_hubs.specs.Counts.{at_each, sums};
+ghost use Rattle.std.specs.Prelude.{◌≡◌, ◌+◌, ◌<◌, IfNone, IfSome, replicate};
+ghost use Rattle.mcv_hubs.specs.Counts.{plus, sums, tally, unused};
 
 use crate::names::{At, Names};
 use mcv_hub::{Pass, Passes, Seat};
@@ -22,21 +22,18 @@ pub struct Seats<F: Names, G: Names> {
 }
 
 impl<F: Names, G: Names> Model for Seats<F, G> {
-    ghost use Rattle.std.specs.Prelude.{[], ◌∷◌};
-    ghost use Rattle.mcv_hubs.specs.Counts.{SeatsView};
+    ghost use Rattle.std.specs.Prelude.{List, [], ◌∷◌};
+    ghost use Rattle.mcv_hubs.specs.Counts.{Tally, tally};
 
-    ghost Value = { SeatsView };
+    ghost Value = { List Tally };
 
-    ghost view = { λ s. record { begun = s.seat0.begun.amount ∷ s.seat1.begun.amount ∷ s.seat2.begun.amount ∷ s.seat3.begun.amount ∷ s.seat4.begun.amount ∷ s.seat5.begun.amount ∷ s.seat6.begun.amount ∷ s.seat7.begun.amount ∷ []; taken = s.seat0.taken.amount ∷ s.seat1.taken.amount ∷ s.seat2.taken.amount ∷ s.seat3.taken.amount ∷ s.seat4.taken.amount ∷ s.seat5.taken.amount ∷ s.seat6.taken.amount ∷ s.seat7.taken.amount ∷ []; begun_parts = s.seat0.begun.parts ∷ s.seat1.begun.parts ∷ s.seat2.begun.parts ∷ s.seat3.begun.parts ∷ s.seat4.begun.parts ∷ s.seat5.begun.parts ∷ s.seat6.begun.parts ∷ s.seat7.begun.parts ∷ []; taken_parts = s.seat0.taken.parts ∷ s.seat1.taken.parts ∷ s.seat2.taken.parts ∷ s.seat3.taken.parts ∷ s.seat4.taken.parts ∷ s.seat5.taken.parts ∷ s.seat6.taken.parts ∷ s.seat7.taken.parts ∷ [] } };
+    ghost view = { λ s. tally s.seat0.begun.amount s.seat0.taken.amount s.seat0.begun.parts s.seat0.taken.parts ∷ tally s.seat1.begun.amount s.seat1.taken.amount s.seat1.begun.parts s.seat1.taken.parts ∷ tally s.seat2.begun.amount s.seat2.taken.amount s.seat2.begun.parts s.seat2.taken.parts ∷ tally s.seat3.begun.amount s.seat3.taken.amount s.seat3.begun.parts s.seat3.taken.parts ∷ tally s.seat4.begun.amount s.seat4.taken.amount s.seat4.begun.parts s.seat4.taken.parts ∷ tally s.seat5.begun.amount s.seat5.taken.amount s.seat5.begun.parts s.seat5.taken.parts ∷ tally s.seat6.begun.amount s.seat6.taken.amount s.seat6.begun.parts s.seat6.taken.parts ∷ tally s.seat7.begun.amount s.seat7.taken.amount s.seat7.begun.parts s.seat7.taken.parts ∷ [] };
 }
 
 impl<F: Names, G: Names> Seats<F, G> {
     /// Adds another session's shares to these.
     pub fn merge(&mut self, other: Seats<F, G>)
-        ensures begun { self.new.begun ≡ sums self.old.begun other.begun }
-        ensures taken { self.new.taken ≡ sums self.old.taken other.taken }
-        ensures begun_parts { self.new.begun_parts ≡ sums self.old.begun_parts other.begun_parts }
-        ensures taken_parts { self.new.taken_parts ≡ sums self.old.taken_parts other.taken_parts }
+        ensures { self.new ≡ sums self.old other }
     {
         let Seats {
             seat0,
@@ -61,10 +58,7 @@ impl<F: Names, G: Names> Seats<F, G> {
 
 /// Adds the shares of one seat to those of another.
 fn merge<B: Ledger, T: Ledger>(all: &mut Seat<B, T>, one: Seat<B, T>)
-    ensures begun { all.new.begun.amount ≡ all.old.begun.amount + one.begun.amount }
-    ensures taken { all.new.taken.amount ≡ all.old.taken.amount + one.taken.amount }
-    ensures begun_parts { all.new.begun.parts ≡ all.old.begun.parts + one.begun.parts }
-    ensures taken_parts { all.new.taken.parts ≡ all.old.taken.parts + one.taken.parts }
+    ensures { tally all.new.begun.amount all.new.taken.amount all.new.begun.parts all.new.taken.parts ≡ plus (tally all.old.begun.amount all.old.taken.amount all.old.begun.parts all.old.taken.parts) (tally one.begun.amount one.taken.amount one.begun.parts one.taken.parts) }
 {
     all.begun.merge(one.begun);
     all.taken.merge(one.taken);
@@ -106,27 +100,33 @@ impl<F: Names, G: Names> HubPasses<F, G> {
     /// Seats for one session, which has begun no call and taken no reply; None once all were given.
     pub fn seats(&mut self) -> Option<Seats<F, G>>
         ensures left { IfSome result (λ s. self.new + 1 ≡ self.old) }
-        ensures none { IfNone result (self.old ≡ 0) }
-        ensures unused { IfSome result (λ s. (s.begun ≡ at_each 0) × (s.taken ≡ at_each 0)) }
-        ensures parts { IfSome result (λ s. (s.begun_parts ≡ at_each 1) × (s.taken_parts ≡ at_each 1)) }
+        ensures none { IfNone result ((self.old ≡ 0) × (self.new ≡ 0)) }
+        ensures unused { IfSome result (λ s. s ≡ replicate 8 unused) }
     {
-        let seat0 = self.passes0.seat()?;
-        let seat1 = self.passes1.seat()?;
-        let seat2 = self.passes2.seat()?;
-        let seat3 = self.passes3.seat()?;
-        let seat4 = self.passes4.seat()?;
-        let seat5 = self.passes5.seat()?;
-        let seat6 = self.passes6.seat()?;
-        let seat7 = self.passes7.seat()?;
+        if self.passes0.left() == 0 {
+            return None;
+        }
         Some(Seats {
-            seat0,
-            seat1,
-            seat2,
-            seat3,
-            seat4,
-            seat5,
-            seat6,
-            seat7,
+            seat0: next_seat(&mut self.passes0),
+            seat1: next_seat(&mut self.passes1),
+            seat2: next_seat(&mut self.passes2),
+            seat3: next_seat(&mut self.passes3),
+            seat4: next_seat(&mut self.passes4),
+            seat5: next_seat(&mut self.passes5),
+            seat6: next_seat(&mut self.passes6),
+            seat7: next_seat(&mut self.passes7),
         })
+    }
+}
+
+/// The next seat of one hub.
+fn next_seat<B: Ledger, T: Ledger>(passes: &mut Passes<B, T>) -> Seat<B, T>
+    requires { 0 < passes.old.left }
+    ensures left { passes.new.left + 1 ≡ passes.old.left }
+    ensures unused { tally result.begun.amount result.taken.amount result.begun.parts result.taken.parts ≡ unused }
+{
+    match passes.seat() {
+        Some(seat) => seat,
+        None => unreachable!(),
     }
 }

@@ -25,7 +25,7 @@ use std::sync::{Arc, Wait};
 use std::time::Duration;
 
 /// How long a call waits for the next chapter at most, in milliseconds.
-const PATIENCE: u64 = 50;
+const PATIENCE: u64 = 1_000;
 
 /// What calls of a hub take: the ways to the servers, the pass and the seat of one session, its watch and its errands.
 #[derive(Drop)]
