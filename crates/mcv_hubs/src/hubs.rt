@@ -134,7 +134,7 @@ impl<F: Names, G: Names> Hubs<F, G> {
     }
 
     /// Begins a call for one key of the request, counted from 0, at the hub of that key. Where that hub's next chapter is due
-    /// it waits for it, as `Hub::enter`, for a second at most.
+    /// the first key waits for it, for a second at most (`Hub::enter`).
     pub fn begin<R: Wait + Clock>(
         &self,
         rt: &R,

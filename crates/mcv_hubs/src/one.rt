@@ -18,8 +18,9 @@ use std::time::Duration;
 /// How long a call waits for the next chapter at most, in milliseconds.
 const PATIENCE: u64 = 1_000;
 
-/// Begins a call for one key of the request. Where the next chapter is due it waits for that, and begins in the old one where
-/// that takes too long. What is left of an old chapter is dropped once the lock is let go.
+/// Begins a call for one key of the request. Where the next chapter is due the first key waits for that, and begins in the old
+/// one where that takes too long; for another key the request's own calls run, so it doesn't wait. What is left of an old
+/// chapter is dropped once the lock is let go.
 pub(crate) fn begin<B: Ledger, T: Ledger, R: Wait + Clock>(
     rt: &R,
     alloc: Global,
@@ -33,7 +34,11 @@ pub(crate) fn begin<B: Ledger, T: Ledger, R: Wait + Clock>(
 {
     let (request, key) = asked;
     let guard = hub.lock(rt, pass);
-    let (mut guard, gate) = hub.enter(rt, alloc, guard, Duration::from_millis(PATIENCE));
+    let (mut guard, gate) = if key == 0 {
+        hub.enter(rt, alloc, guard, Duration::from_millis(PATIENCE))
+    } else {
+        (guard, Gate::Open)
+    };
     let begun = guard.begin(alloc, seat, request, key);
     drop(guard);
     welcome(hub, gate);

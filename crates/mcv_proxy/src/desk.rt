@@ -207,6 +207,26 @@ fn confirmed(routes: &Routes, request: &Request, key: usize, fault: CoreFault) -
     }
 }
 
+/// Begins a call for one key of a request that is kept.
+fn begin_shared<B: Ledger, T: Ledger>(
+    alloc: Global,
+    guard: &mut Guard<'_, B, T>,
+    seat: &mut Seat<B, T>,
+    agenda: &mut Agenda<'_, B, T>,
+    request: &Arc<Request>,
+    key: usize,
+) -> Result<CallId, CoreFault>
+    ensures err { IfErr result IsRefusal }
+    ensures begun { OnOk result (seat.new.begun.amount ≡ seat.old.begun.amount + 1) }
+    ensures unbegun { OnErr result (seat.new.begun.amount ≡ seat.old.begun.amount) }
+    ensures taken { seat.new.taken.amount ≡ seat.old.taken.amount }
+{
+    match Arc::try_clone(request) {
+        Ok(request) => events::begin(alloc, agenda, guard, seat, request, key),
+        Err(_) => Err(CoreFault::Memory),
+    }
+}
+
 /// Begins a call. Where the chapter has no place for it, and nothing is left of that, the next one begins first, and the call
 /// is begun once more.
 fn begin_once_more<B: Ledger, T: Ledger>(
@@ -222,18 +242,15 @@ fn begin_once_more<B: Ledger, T: Ledger>(
     ensures unbegun { OnErr result (seat.new.begun.amount ≡ seat.old.begun.amount) }
     ensures taken { seat.new.taken.amount ≡ seat.old.taken.amount }
 {
-    let (Ok(first), Ok(second)) = (Arc::try_clone(request), Arc::try_clone(request)) else {
-        return Err(CoreFault::Memory);
-    };
-    match events::begin(alloc, agenda, guard, seat, first, key) {
+    match begin_shared(alloc, guard, seat, agenda, request, key) {
         Err(CoreFault::ChapterFull) => {}
         answer => return answer,
     }
-    let Ok(past) = guard.turn(alloc) else {
-        return Err(CoreFault::ChapterFull);
-    };
-    agenda.note_turned(past);
-    events::begin(alloc, agenda, guard, seat, second, key)
+    match guard.turn(alloc) {
+        Ok(past) => agenda.note_turned(past),
+        Err(_) => return Err(CoreFault::ChapterFull),
+    }
+    begin_shared(alloc, guard, seat, agenda, request, key)
 }
 
 /// Begins a call for one key of a request. Where the next chapter is due the first key waits for it, and begins in the old one
