@@ -4,13 +4,15 @@ ghost use Rattle.std.specs.Prelude.{◌≡◌, ◌+◌};
 
 use crate::script::server;
 use crate::setup::{ONE, accepted_of, bytes, request};
-use mcv_base::{FixedReply, Op, Reply, Request};
+use mcv_base::{CallId, FixedReply, Op, Reply, Request};
 use mcv_core::CoreFault;
 use mcv_hub::{Capacity, Gate, Guard, Hub, LegReply, Passes, Receipt, Report, Seat};
 use std::marker::Brand;
 use std::process::Abort;
+use std::rt::Clock;
 use std::sync::ledger::{Blank, Ledger};
 use std::sync::{Arc, Wait};
+use std::time::Duration;
 
 /// How many seats there are.
 const SEATS: u64 = 1;
@@ -147,6 +149,80 @@ fn chapters_end_at_64_mib(rt: HostRuntime) {
     large_values::<Brand, Brand>(&rt, Blank::new(SEATS + 1), Blank::new(SEATS + 1));
 }
 
+/// Begins a get and has it answered, but doesn't take its reply: it runs on.
+fn begin_one<B: Ledger, T: Ledger>(
+    rt: &(impl AllocGlobal + Abort),
+    guard: &mut Guard<'_, B, T>,
+    seat: &mut Seat<B, T>,
+) -> CallId {
+    let asked = request(rt, Op::Get, b"b");
+    let call = guard.begin(rt.alloc(), seat, asked, 0).expect(rt, "a call");
+    let leg = guard.next(server(0)).expect(rt, "its leg");
+    let missed = LegReply::fixed(FixedReply::Miss);
+    guard.answered(leg, missed).expect(rt, "a miss");
+    call
+}
+
+/// Takes the reply to a call.
+fn take_one<B: Ledger, T: Ledger>(
+    rt: &impl Abort,
+    guard: &mut Guard<'_, B, T>,
+    seat: &mut Seat<B, T>,
+    call: CallId,
+) {
+    let taken = guard.take_reply(seat, call).expect(rt, "its reply");
+    assert!(rt; taken.is_some(), "no reply");
+}
+
+/// So many gets of large values, while the chapter can't end.
+fn get_beside<B: Ledger, T: Ledger>(
+    rt: &(impl AllocGlobal + Abort),
+    guard: &mut Guard<'_, B, T>,
+    seat: &mut Seat<B, T>,
+    count: usize,
+) {
+    let asked = request(rt, Op::Get, b"a");
+    let body = value(rt, LARGE);
+    for _ in 0..count {
+        let _receipt = get(rt, guard, seat, &asked, &body).expect(rt, "a hit");
+    }
+}
+
+/// A chapter that is due while a call of it runs: the first call that waits does so in vain, and then none waits, until the next
+/// one has begun. Who waited for an hour would be too late for the test.
+fn awaited_chapter<B: Ledger, T: Ledger>(
+    rt: &(impl AllocGlobal + Abort + Wait + Clock),
+    begun: Blank,
+    taken: Blank,
+)
+    requires begun { (begun.name ≡ B.name) × (begun.parts ≡ B.parts) × (begun.parts ≡ SEATS + 1) }
+    requires taken { (taken.name ≡ T.name) × (taken.parts ≡ T.parts) × (taken.parts ≡ SEATS + 1) }
+{
+    let (short, long) = (Duration::from_millis(20), Duration::from_secs(3_600));
+    let (hub, mut passes) = one_seat::<B, T>(rt, begun, taken);
+    let mut pass = passes.pass();
+    let mut seat = passes.seat().expect(rt, "a seat");
+    let mut guard = hub.lock(rt, &mut pass);
+    let first = begin_one(rt, &mut guard, &mut seat);
+    get_beside(rt, &mut guard, &mut seat, 700);
+    let (guard, gate) = hub.enter(rt, rt.alloc(), guard, short);
+    assert!(rt; gate.is_closed(), "the gate is open");
+    let (mut guard, gate) = hub.enter(rt, rt.alloc(), guard, long);
+    assert!(rt; gate.is_closed(), "the gate is open");
+    let second = begin_one(rt, &mut guard, &mut seat);
+    take_one(rt, &mut guard, &mut seat, first);
+    take_one(rt, &mut guard, &mut seat, second);
+    let (guard, gate) = hub.enter(rt, rt.alloc(), guard, long);
+    assert!(rt; matches!(gate, Gate::Turned(_)), "no other chapter");
+    let (_guard, gate) = hub.enter(rt, rt.alloc(), guard, long);
+    assert!(rt; matches!(gate, Gate::Open), "one more chapter");
+}
+
+#[test]
+fn one_call_waits_for_a_chapter_in_vain(rt: HostRuntime) {
+    awaited_chapter::<Brand, Brand>(&rt, Blank::new(SEATS + 1), Blank::new(SEATS + 1));
+}
+
 /// How many gets of large values are begun until one is refused, while a call runs, so that no chapter can end.
 fn gets_until_full<B: Ledger, T: Ledger>(
     rt: &(impl AllocGlobal + Abort),
@@ -176,19 +252,11 @@ fn heavy_chapter<B: Ledger, T: Ledger>(
     let mut pass = passes.pass();
     let mut seat = passes.seat().expect(rt, "a seat");
     let mut guard = hub.lock(rt, &mut pass);
-    let asked = request(rt, Op::Get, b"b");
-    let first = guard
-        .begin(rt.alloc(), &mut seat, asked, 0)
-        .expect(rt, "a call");
-    let leg = guard.next(server(0)).expect(rt, "its leg");
-    guard
-        .answered(leg, LegReply::fixed(FixedReply::Miss))
-        .expect(rt, "a miss");
+    let first = begin_one(rt, &mut guard, &mut seat);
     let found = gets_until_full(rt, &mut guard, &mut seat);
     assert!(rt; found == (2_675, CoreFault::ChapterFull), "{found:?}");
     assert!(rt; guard.gate(rt.alloc()).is_closed(), "the gate is open");
-    let taken = guard.take_reply(&mut seat, first).expect(rt, "its reply");
-    assert!(rt; taken.is_some(), "no reply");
+    take_one(rt, &mut guard, &mut seat, first);
     assert!(rt;
         matches!(guard.gate(rt.alloc()), Gate::Turned(_)),
         "no other chapter"

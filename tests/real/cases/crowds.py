@@ -114,6 +114,38 @@ def forty_thousand_connections_one_after_the_other(machine):
         raise Failed("(megabytes, threads, maps) are %s, and were %s after 1,000" % (after, before))
 
 
+def getting(mcv, count, wanted, faults, most):
+    """So many gets of the large value, one after the other; keeps the most megabytes that the program had meanwhile."""
+    try:
+        with mcv.client() as client:
+            for _ in range(count):
+                client.send(b"get large\r\n")
+                if client.exactly(len(wanted)) != wanted:
+                    raise Failed("another value")
+                most.append(max(most.pop(), used(mcv.process)[0]))
+    except (Failed, OSError, IndexError) as fault:
+        faults.append(repr(fault))
+
+
+@case(240)
+def large_values_are_let_go_of(machine):
+    server = machine.servers(1)[0]
+    mcv = machine.mcv(one_pool([server]))
+    value = b"x" * 100000
+    with mcv.client() as client:
+        client.ask(stored(b"large", value), b"STORED\r\n")
+    faults, most = [], [[0] for _ in range(8)]
+    threads = [threading.Thread(target=getting, args=(mcv, 2500, value_answer(b"large", value), faults, one)) for one in most]
+    for thread in threads:
+        thread.start()
+    for thread in threads:
+        thread.join()
+    expect(faults, [], "faults of clients that get")
+    # 2 GB of values went through the history of its chapters, which lets go of them from 64 MiB on.
+    if max(one[0] for one in most) >= 400:
+        raise Failed("the program had %d megabytes" % max(one[0] for one in most))
+
+
 @case()
 def a_client_past_its_time_is_closed(machine):
     mcv = machine.mcv(one_pool(machine.servers(1)), client_timeout=1000)

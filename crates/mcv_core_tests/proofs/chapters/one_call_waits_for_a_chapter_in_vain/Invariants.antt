@@ -1,0 +1,8 @@
+use Rattle.mcv_core_tests.proofs.chapters.one_call_waits_for_a_chapter_in_vain.Given as goal
+
+-- the ledgers are those that the two blanks open
+abbrev pub ghosts-awaited_chapter-B-Ledger : goal.ghosts-awaited_chapter-B-Ledger
+ghosts-awaited_chapter-B-Ledger g a = record { name = a.begun.name; parts = a.begun.parts }
+
+abbrev pub ghosts-awaited_chapter-T-Ledger : goal.ghosts-awaited_chapter-T-Ledger
+ghosts-awaited_chapter-T-Ledger g a = record { name = a.taken.name; parts = a.taken.parts }
