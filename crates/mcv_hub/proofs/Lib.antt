@@ -8,4 +8,5 @@ mod AskedCalls
 mod DueChapters
 mod AddedWeights
 pub mod Books
+pub mod Crossing
 mod Examples

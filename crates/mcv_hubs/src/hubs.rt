@@ -44,7 +44,7 @@ pub struct Hubs<F: Names, G: Names> {
 }
 
 /// What hubs begin with.
-#[derive(Drop)]
+#[derive(Clone, Copy)]
 struct Stock<'a> {
     alloc: Global,
     accepted: &'a Arc<Accepted>,
