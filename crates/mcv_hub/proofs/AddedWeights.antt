@@ -4,7 +4,8 @@ use Rattle.std.specs.Prelude.{min, sum_by}
 use Rattle.std.proofs.lemmas.List.Sums.{sum_by_more, sum_by_push}
 use Rattle.mcv_hub.specs.History.{is_began, is_taken}
 use Rattle.mcv_base.specs.declared.request.Request.{Request}
-use Rattle.mcv_hub.specs.Weights.{began_bytes, bytes_of, capped, request_bytes, weight}
+use Rattle.mcv_plan.specs.Counts.{capped}
+use Rattle.mcv_hub.specs.Weights.{began_bytes, bytes_of, request_bytes, weight}
 use Rattle.mcv_hub.specs.declared.entry.Entry.{Entry}
 
 -- ---- sums of two

@@ -1,5 +1,5 @@
--- How many bytes the history of a chapter holds, and when a chapter is heavy (own).
-use Rattle.std.specs.Prelude.{ℕ, ◌+◌, ◌-◌, ◌^◌, ◌≤◌, ◌<◌, zero, suc, List, min, sum_by, vec_len}
+-- How many bytes the history of a chapter holds (own).
+use Rattle.std.specs.Prelude.{ℕ, ◌+◌, zero, suc, List, sum_by, vec_len}
 use Rattle.std.specs.Arc.{arc_value}
 use Rattle.mcv_base.specs.declared.reply.Part.{Part}
 use Rattle.mcv_base.specs.declared.reply.Part.TheVariants as parts
@@ -7,6 +7,7 @@ use Rattle.mcv_base.specs.declared.reply.Reply.{Reply}
 use Rattle.mcv_base.specs.declared.reply.Reply.TheVariants as replies
 use Rattle.mcv_base.specs.declared.request.Request.{Request}
 use Rattle.mcv_base.specs.declared.request.Request.TheVariants.{Ask, Version, Quit}
+use Rattle.mcv_plan.specs.Counts.{capped}
 use Rattle.mcv_hub.specs.declared.entry.Entry.{Entry}
 use Rattle.mcv_hub.specs.declared.entry.Entry.TheVariants as entries
 
@@ -52,10 +53,6 @@ weight (entries.Performed leg) = entry_bytes
 weight (entries.EraBegan era) = entry_bytes
 weight (entries.Taken call) = entry_bytes
 
--- as a `u64`: 2^64 - 1 where it is more
-abbrev pub capped : ℕ → ℕ
-capped n = min n (2 ^ 64 - 1)
-
--- those of all entries together
+-- those of all entries together, as a `u64`: 2^64 - 1 where it is more
 unfoldable pub bytes_of : List Entry → ℕ
 bytes_of history = capped (sum_by weight history)

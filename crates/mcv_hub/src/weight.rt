@@ -1,7 +1,8 @@
 //! The bytes that an entry holds.
 
 ghost use Rattle.std.specs.Prelude.{◌≡◌, sum_by, vec_len};
-ghost use Rattle.mcv_hub.specs.Weights.{began_bytes, capped, part_bytes, reply_bytes, request_bytes, weight};
+ghost use Rattle.mcv_plan.specs.Counts.{capped};
+ghost use Rattle.mcv_hub.specs.Weights.{began_bytes, part_bytes, reply_bytes, request_bytes, weight};
 
 use crate::entry::Entry;
 use mcv_base::{Part, Reply, Request};

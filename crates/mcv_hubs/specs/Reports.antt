@@ -3,7 +3,7 @@ use Rattle.std.specs.Prelude.{◌≡◌, ◌+◌, ◌<◌, ◌⊎◌, ℕ, List,
 use Rattle.mcv_core.specs.View.{core_view}
 use Rattle.mcv_hub.specs.Receipts.{ArePassed, AreRefused}
 use Rattle.mcv_hub.specs.State.{HistoryKeepsDeletes, HubView}
-use Rattle.mcv_hub.specs.Weights.{capped}
+use Rattle.mcv_plan.specs.Counts.{capped}
 use Rattle.mcv_hub.specs.declared.receipts.Receipt.{Receipt}
 use Rattle.mcv_hub.specs.declared.receipts.ReceiptFault.{ReceiptFault}
 use Rattle.mcv_hub.specs.declared.receipts.ReceiptFault.TheVariants as faults

@@ -1,7 +1,8 @@
 use Rattle.std.proofs.Common.{◌≡◌, ◌∙◌, ◌+◌, ◌-◌, ◌^◌, Global, List, Vec, ap, subst, sym, ℕ}
 use Rattle.std.specs.Arc.{arc_value}
 use Rattle.std.specs.Prelude.{min, sum_by, vec_len}
-use Rattle.mcv_hub.specs.Weights.{capped, request_bytes}
+use Rattle.mcv_plan.specs.Counts.{capped}
+use Rattle.mcv_hub.specs.Weights.{request_bytes}
 use Rattle.mcv_hub.proofs.AddedWeights.{capped_more}
 use Rattle.mcv_hub.proofs.weight.request_bytes.Goals as goal
 
