@@ -2,3 +2,4 @@ mod Examples
 mod Keys
 mod Counting
 mod Closing
+pub mod Crossing
