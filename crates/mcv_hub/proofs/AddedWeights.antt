@@ -1,5 +1,6 @@
 -- Sums of weights, as `u64`s.
-use Rattle.std.proofs.Common.{◌≡◌, ◌∙◌, cond, ℕ, zero, suc, ◌+◌, ◌-◌, ◌^◌, ◌<◌, ◌≤◌, Bool, List, [], ◌∷◌, ◌++◌, ap, arith, count_by, get_or, length, refl, sym, take, take_all}
+use mir.Val.{bool_byte}
+use Rattle.std.proofs.Common.{◌≡◌, ◌∙◌, cond, true, false, ℕ, zero, suc, ◌+◌, ◌-◌, ◌^◌, ◌<◌, ◌≤◌, Bool, List, [], ◌∷◌, ◌++◌, ap, arith, count_by, get_or, length, refl, sym, take, take_all}
 use Rattle.std.specs.Prelude.{min, sum_by}
 use Rattle.std.proofs.lemmas.List.Sums.{sum_by_more, sum_by_push}
 use Rattle.mcv_hub.specs.History.{is_began, is_taken}
@@ -51,6 +52,11 @@ all_summed f xs i total all is = is ∙ ap (λ ys. capped (sum_by f ys)) (take_a
 pub none_counted : (es : List Entry) → es ≡ [] → (0 ≡ count_by is_began es) × (0 ≡ count_by is_taken es) × (0 ≡ bytes_of es)
 unfolding bytes_of
 none_counted es empty = (ap (count_by is_began) (sym empty), ap (count_by is_taken) (sym empty), ap (λ xs. capped (sum_by weight xs)) (sym empty))
+
+-- a test as a number
+pub bool_one : (b : Bool) → bool_byte b ≡ cond b 1 0
+bool_one true = refl
+bool_one false = refl
 
 -- and of one more
 pub one_counted : (p : Entry → Bool) (es new : List Entry) (e : Entry) (had more : ℕ) → had ≡ count_by p es → more ≡ cond (p e) 1 0 → new ≡ es ++ e ∷ [] → had + more ≡ count_by p new

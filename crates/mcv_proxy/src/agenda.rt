@@ -2,7 +2,7 @@
 
 use mcv_base::{CallId, LegId, Mark, ServerId};
 use mcv_core::{Dispatcher, LegState, LegView};
-use mcv_hub::{Bell, Hub, Past};
+use mcv_hub::{Bell, Gate, Guard, Hub, Past};
 use std::alloc::Global;
 use std::sync::ledger::Ledger;
 
@@ -17,6 +17,7 @@ pub(crate) struct Due {
 /// chapter to be dropped then, and legs that a session has to send for its calls.
 #[derive(Drop)]
 pub(crate) struct Agenda<'a, B: Ledger, T: Ledger> {
+    alloc: Global,
     hub: &'a Hub<B, T>,
     bells: Vec<Bell>,
     past: Option<Past>,
@@ -47,6 +48,7 @@ impl<'a, B: Ledger, T: Ledger> Agenda<'a, B, T> {
     /// Nothing to be done. It takes no memory.
     pub(crate) fn new(alloc: Global, hub: &'a Hub<B, T>) -> Agenda<'a, B, T> {
         Agenda {
+            alloc,
             hub,
             bells: Vec::new(alloc),
             past: None,
@@ -64,14 +66,22 @@ impl<'a, B: Ledger, T: Ledger> Agenda<'a, B, T> {
         keep_in_mind(self.hub, &mut self.bells, bell);
     }
 
+    /// Begins the next chapter where it is due, and no call runs and no leg is queued.
+    pub(crate) fn turn_where_due(&mut self, guard: &mut Guard<'_, B, T>) {
+        if let Gate::Turned(past) = guard.gate(self.alloc) {
+            self.note_turned(past);
+        }
+    }
+
     /// The next chapter has begun: who waits for it is to be rung, and what is left of the old one to be dropped.
     pub(crate) fn note_turned(&mut self, past: Past) {
         self.past = Some(past);
         self.add(Bell::Chapter);
     }
 
-    /// Drops what is left of an old chapter. The lock is let go before.
-    pub(crate) fn drop_past(&mut self) {
+    /// Rings all bells that are to be rung, and drops what is left of an old chapter. The lock is let go before.
+    pub(crate) fn finish(&mut self) {
+        self.ring_all();
         self.past = None;
     }
 

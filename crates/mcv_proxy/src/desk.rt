@@ -391,7 +391,7 @@ fn go_on<B: Ledger, T: Ledger, L: Link, R: Wait>(
         progress = take_ready(&mut guard, seat, calls, progress, taken);
         let Some(call) = calls.get(progress.done) else {
             errands.agenda.leave(guard.core());
-            events::turn_where_due(alloc, &mut errands.agenda, &mut guard);
+            errands.agenda.turn_where_due(&mut guard);
             return progress;
         };
         let has_lost = errands.set_off(rt, alloc, lanes, &mut guard, calls, Some(*call));

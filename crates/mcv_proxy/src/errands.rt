@@ -313,8 +313,7 @@ impl<'a, B: Ledger, T: Ledger, L: Link> Errands<'a, B, T, L> {
 
     /// Rings all bells, drops what is left of an old chapter, and notes the server that is marked since the last time.
     pub(crate) fn finish<R: Wait>(&mut self, rt: &R, links: &Links<L>, pass: &Pass) {
-        self.agenda.ring_all();
-        self.agenda.drop_past();
+        self.agenda.finish();
         if let Some(server) = self.marked.take() {
             links.note_marked(rt, pass, server);
         }

@@ -14,7 +14,7 @@ use crate::agenda::Agenda;
 use crate::gates::LinkFault;
 use mcv_base::{CallId, LegId, Request, ServerId};
 use mcv_core::{CoreFault, Dispatcher, LegState, Step};
-use mcv_hub::{Bell, Gate, Guard, LegReply, Seat};
+use mcv_hub::{Bell, Guard, LegReply, Seat};
 use mcv_spool::Stored;
 use std::alloc::Global;
 use std::sync::Arc;
@@ -37,17 +37,6 @@ fn concerned_by(core: &Dispatcher, leg: LegId) -> Concerned {
             first,
         },
         None => Concerned { call: None, first },
-    }
-}
-
-/// Begins the next chapter where it is due, and no call runs and no leg is queued.
-pub(crate) fn turn_where_due<B: Ledger, T: Ledger>(
-    alloc: Global,
-    agenda: &mut Agenda<'_, B, T>,
-    guard: &mut Guard<'_, B, T>,
-) {
-    if let Gate::Turned(past) = guard.gate(alloc) {
-        agenda.note_turned(past);
     }
 }
 
