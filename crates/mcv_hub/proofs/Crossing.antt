@@ -37,7 +37,6 @@ use Rattle.mcv_core.proofs.call.Recorded.TheSendSync as recorded
 use Rattle.mcv_hub.specs.contracts.state.HubState as HubState
 use Rattle.mcv_hub.specs.contracts.hub.Hub as Hub
 use Rattle.mcv_hub.proofs.entry.Entry.TheSendSync as entry
-use Rattle.mcv_hub.proofs.history.History.TheSendSync as history
 use Rattle.mcv_hub.specs.contracts.seat.Seat as Seat
 use Rattle.mcv_hub.proofs.seat.Seat.TheSendSync as seat
 
@@ -82,7 +81,7 @@ core_send = search (dispatcher_send, fnv.the_send, sendable, crosses, maps.cross
 
 module _ (B T : RattleType) (b : Ghosts B.Denot) (t : Ghosts T.Denot) where
   state_send : IsSend (HubState.the_row B T b t)
-  state_send = search (core_send, entry.the_send, history.the_send, book.the_send, sendable, crosses, maps.crosses) depth 24
+  state_send = search (core_send, entry.the_send, book.the_send, sendable, crosses, maps.crosses) depth 24
 
   pub hub_send : IsSend (Hub.the_field B T b t).row
   hub_send = search (state_send, sendable, crosses, maps.crosses) depth 24

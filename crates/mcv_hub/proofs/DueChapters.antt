@@ -1,5 +1,5 @@
 -- Which chapters are due.
-use Rattle.std.proofs.Common.{◌≡◌, ◌∙◌, ◌&&◌, ◌||◌, ◌*◌, ◌-◌, ℕ, Bool, false, [], ap, arith, refl}
+use Rattle.std.proofs.Common.{◌≡◌, ◌∙◌, ◌&&◌, ◌||◌, ◌*◌, ◌-◌, ℕ, Bool, false, List, [], ap, arith, refl}
 use Rattle.std.specs.Prelude.{nat_le, nat_lt}
 use Rattle.std.proofs.lemmas.Bool.{le-ltb}
 use Rattle.mcv_core.specs.View.{core_view}
@@ -8,6 +8,7 @@ use Rattle.mcv_hub.specs.Events.{BeginsChapter}
 use Rattle.mcv_hub.specs.Gate.{IsGate, due_bytes, is_chapter_due, is_closed, is_half_full}
 use Rattle.mcv_hub.specs.State.{HubView, IsSame}
 use Rattle.mcv_hub.specs.Weights.{bytes_of}
+use Rattle.mcv_hub.specs.declared.entry.Entry.{Entry}
 use Rattle.mcv_hub.specs.declared.gate.Gate.{Gate}
 use Rattle.mcv_hub.specs.declared.gate.Gate.TheVariants as gates
 
@@ -19,14 +20,13 @@ nothing_gained : (n : ℕ) → is_half_full n n ≡ false
 nothing_gained n = let least : nat_lt n n ≡ false = le-ltb n n (omega arith) in ap (λ b. b && nat_le (1000000 - n) (2 * (n - n))) least
 
 -- one that has only what it opened with isn't
-pub opened_isnt_due : (v : HubView) → v.opened ≡ (core_view v.core).entries → v.history ≡ [] → is_chapter_due v ≡ false
-opened_isnt_due v opened empty =
-    let n = (core_view v.core).entries in
-    ap (λ o. is_half_full o n || nat_le due_bytes (bytes_of v.history)) opened ∙ ap (λ es. is_half_full n n || nat_le due_bytes (bytes_of es)) empty
-    ∙ ap (λ k. is_half_full n n || nat_le due_bytes k) nothing_held ∙ ap (λ b. b || nat_le due_bytes 0) (nothing_gained n)
+pub opening_isnt_due : (opened entries : ℕ) (es : List Entry) → opened ≡ entries → es ≡ [] → (is_half_full opened entries || nat_le due_bytes (bytes_of es)) ≡ false
+opening_isnt_due opened entries es same empty =
+    ap (λ o. is_half_full o entries || nat_le due_bytes (bytes_of es)) same ∙ ap (λ xs. is_half_full entries entries || nat_le due_bytes (bytes_of xs)) empty ∙ ap (λ k. is_half_full entries entries || nat_le due_bytes k) nothing_held
+    ∙ ap (λ b. b || nat_le due_bytes 0) (nothing_gained entries)
 
 pub begun_isnt_due : (old new : HubView) → BeginsChapter old new → is_chapter_due new ≡ false
-begun_isnt_due old new h = opened_isnt_due new h.opened h.history
+begun_isnt_due old new h = opening_isnt_due new.opened (core_view new.core).entries new.history h.opened h.history
 
 pub same_is_due : (old new : HubView) → IsSame old new → is_chapter_due new ≡ is_chapter_due old
 same_is_due old new h =

@@ -40,7 +40,7 @@ use Rattle.mcv_core.specs.Events as events
 use Rattle.mcv_core.specs.View.{core_view}
 use Rattle.mcv_core.proofs.EventsLead.{Leads, goes, nothing_leads, stays}
 use Rattle.mcv_core.specs.declared.fault.CoreFault.{CoreFault}
-use Rattle.mcv_core.specs.declared.fault.CoreFault.TheVariants.{ChapterFull, NoSuchCall}
+use Rattle.mcv_core.specs.declared.fault.CoreFault.TheVariants.{NoSuchCall}
 use Rattle.mcv_core.specs.declared.step.Step.{Step}
 use Rattle.mcv_core.specs.declared.turn.Era.{Era}
 use Rattle.mcv_core.specs.declared.step.Change.{Change}
@@ -49,10 +49,8 @@ use Rattle.mcv_hub.specs.declared.entry.Entry.{Entry}
 use Rattle.mcv_hub.specs.declared.entry.Entry.TheVariants as entries
 use Rattle.mcv_hub.specs.Events.{BeginsChapter, IsHubEvent}
 use Rattle.mcv_hub.specs.History.{Begins, IsMoveOf, IsHistory, IsHistoryFrom, Writes, answer_change, answer_era, begins_one, begun_by, none, more, is_began, is_taken, taken_by, takes_one, with_entry, written, entries_in, leg_entry, era_entry}
-use Rattle.mcv_hub.specs.Gate.{IsHubBegun, most_bytes}
 use Rattle.mcv_hub.specs.RemainingEntries.{break_count, may_write}
-use Rattle.mcv_hub.specs.State.{HasRoom, HistoryKeepsDeletes, HubView, IsHub, IsSame, IsSameChapter}
-use Rattle.mcv_hub.specs.Weights.{bytes_of}
+use Rattle.mcv_hub.specs.State.{HasRoom, HistoryKeepsDeletes, HubView, IsHub, IsSameChapter}
 use Rattle.mcv_hub.proofs.EventsMayWrite.{Goes, GoesOn}
 
 run-push : (r : RoutesValue) (w : World) (ms : List Move) (m : Move) → run r w (ms ++ m ∷ []) ≡ after r (run r w ms) m
@@ -474,15 +472,3 @@ chapter_begins old new m h history hub chapter opened b t bb tb few_begun few_ta
       few_begun = few_begun;
       few_taken = few_taken;
     }
-
--- ---- the bytes of a history
-
-pub same_hub : (v : HubView) → IsSame v v
-same_hub v = record { core = refl; history = refl; books = record { begun = refl; taken = refl; same = record { hub = refl; chapter = refl; opened = refl; begun_before = refl; taken_before = refl } } }
-
--- no call begins where it holds too many
-pub heavy_begun : (v : HubView) (request : Request) (key : ℕ) → most_bytes < bytes_of v.history → IsHubBegun v request key (Err ChapterFull) v
-heavy_begun v request key more = record { heavy = λ much. (refl, same_hub v); event = λ few. absurd (omega (arith, more, few)) }
-
-pub light_begun : (old new : HubView) (request : Request) (key : ℕ) (result : Result CallId CoreFault) → bytes_of old.history ≤ most_bytes → IsHubEvent (IsBegun (core_view old.core) fnv_index request key result) old new → IsHubBegun old request key result new
-light_begun old new request key result few h = record { heavy = λ much. absurd (omega (arith, much, few)); event = λ less. h }

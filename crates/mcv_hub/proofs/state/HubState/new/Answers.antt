@@ -3,7 +3,7 @@ use Rattle.std.specs.Arc.{arc_value}
 use Rattle.mcv_core.specs.View.{core_view}
 use Rattle.mcv_symbolic.specs.CoveredRoutes.{AreCovered}
 use Rattle.mcv_hub.specs.RemainingEntries.{break_count}
-use Rattle.mcv_hub.proofs.DueChapters.{opened_isnt_due}
+use Rattle.mcv_hub.proofs.DueChapters.{opening_isnt_due}
 use Rattle.mcv_hub.proofs.EventsMayWrite.{open_writes}
 use Rattle.mcv_hub.proofs.Histories.{opened_holds}
 use Rattle.mcv_hub.proofs.state.HubState.new.Goals as goal
@@ -18,4 +18,4 @@ invariant_of-state g c =
     c.open-begun.ensures.total c.open-taken.ensures.total c.in-Ok.ensures.len (omega (arith, entries, fewer, count, places)) c.in-Ok.ensures.capacity c.in-Some.ensures.1 count
 
 pub returns-clause-due : goal.returns-clause-due
-returns-clause-due g c = opened_isnt_due _ (c.entries-opened.ensures ∙ ap (λ d. (core_view d).entries) c.state.ensures) c.in-Ok.ensures.items
+returns-clause-due g c = opening_isnt_due _ _ _ (c.entries-opened.ensures ∙ ap (λ d. (core_view d).entries) c.state.ensures) c.in-Ok.ensures.items

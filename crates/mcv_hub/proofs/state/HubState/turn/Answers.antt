@@ -59,8 +59,8 @@ returns-in_err-turn g c =
     }))
 
 -- the old places were there
-pub renew-requires : goal.renew-requires
-renew-requires g c =
+pub renew-past-requires : goal.renew-past-requires
+renew-past-requires g c =
     let lesser = c.turned_places-self-inside.ensures.lesser in
     let kept = c.self.invariant.1.kept in
     omega (arith, lesser, kept)
