@@ -6,10 +6,11 @@ use Rattle.std.specs.contracts.sync.Arc as Arc
 use Rattle.std.specs.contracts.alloc.Global as Heap
 use Rattle.std.specs.contracts.impls.GlobalAllocator.TheImpl.{ghosts}
 use Rattle.mcv_pools.proofs.symbol.Symbol.TheSendSync as symbol
-use Rattle.mcv_hub.proofs.Crossing.{hub_send, hub_sync, seat_send}
+use Rattle.mcv_hub.proofs.Crossing.{hub_send, hub_sync}
 use Rattle.mcv_hubs.specs.declared.names.Names.{Ghosts}
 use Rattle.mcv_hubs.specs.contracts.hubs.Hubs as Hubs
 use Rattle.mcv_hubs.specs.contracts.seats.Seats as Seats
+use Rattle.mcv_hubs.proofs.seats.Seats.TheSendSync as seats
 
 module _ (F G : RattleType) (f : Ghosts F.Denot) (g : Ghosts G.Denot) where
   hubs_send : IsSend (Hubs.the_field F G f g).row
@@ -22,4 +23,4 @@ module _ (F G : RattleType) (f : Ghosts F.Denot) (g : Ghosts G.Denot) where
   shared_hubs = Arc-send (Hubs.the_field F G f g).row hubs_send hubs_sync
 
   pub seats_send : IsSend (Seats.the_row F G f g)
-  seats_send = search (seat_send, sendable, crosses) depth 24
+  seats_send = search (seats.the_send, sendable, crosses) depth 24

@@ -25,10 +25,10 @@ pub record AreNamed (name_of : ℕ → ℕ) (b : Blanks) : Type 0 where
   pub at7 : b.blank7.name ≡ name_of 7
 
 -- the ledgers of the family
-pub record AreOf (name_of : ℕ → ℕ) (parts_of parts : ℕ) (b : Blanks) : Type 0 where
+pub record AreOf (name_of : ℕ → ℕ) (parts_of count : ℕ) (b : Blanks) : Type 0 where
   pub named : AreNamed name_of b
-  pub cut : parts_of ≡ parts
-  pub parts : HaveParts parts b
+  pub cut : parts_of ≡ count
+  pub parts : HaveParts count b
 
 -- the name of each number
 abbrev pub name_at : Blanks → ℕ → ℕ

@@ -24,4 +24,4 @@ pub returns-in-6-clause-counted : goal.returns-in-6-clause-counted
 returns-in-6-clause-counted g c = rw (← c.seats.view_is) (at6 _ _ _ _ _ _ _ _ _ _ _ c.in-6.is c.begin-in-6.ensures.counted)
 
 pub returns-in_default-clause-counted : goal.returns-in_default-clause-counted
-returns-in_default-clause-counted g c = rw (← c.seats.view_is) (at7 _ _ _ _ _ _ _ _ _ _ _ (omega (arith, c.requires, c.in_default.not-0, c.in_default.not-1, c.in_default.not-2, c.in_default.not-3, c.in_default.not-4, c.in_default.not-5, c.in_default.not-6)) c.begin-in_default.ensures.counted)
+returns-in_default-clause-counted g c = rw (← c.seats.view_is) (at7 _ _ _ _ _ _ _ _ _ _ _ (omega (arith, c.requires)) c.begin-in_default.ensures.counted)
