@@ -14,8 +14,8 @@ use mcv_hub::{
 };
 use std::marker::Brand;
 use std::process::Abort;
-use std::sync::{Arc, Wait};
 use std::sync::ledger::{Blank, Ledger};
+use std::sync::{Arc, Wait};
 
 /// How many seats there are.
 const SEATS: u64 = 2;

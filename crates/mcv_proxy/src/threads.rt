@@ -263,9 +263,7 @@ fn serve<
     } = visitor;
     let (hub, lanes) = (&shared.hub, &shared.lanes);
     let turn_from = shared.turn_from;
-    let mut desk = HubDesk::new(
-        rt, alloc, hub, lanes, &*links, pass, seat, watch, turn_from,
-    );
+    let mut desk = HubDesk::new(rt, alloc, hub, lanes, &*links, pass, seat, watch, turn_from);
     let _ = serve_session(alloc, &mut reader, &mut writer, &mut desk);
     let (seat, receipts) = desk.into_parts();
     // Without memory for that it is joined once no more clients come.
