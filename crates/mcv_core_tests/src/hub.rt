@@ -1,18 +1,21 @@
 //! What a hub's guard answers, event by event.
 
-ghost use Rattle.std.specs.Prelude.{◌≡◌, ◌+◌};
+ghost use Rattle.std.specs.Prelude.{◌≡◌, ◌+◌, []};
+ghost use Rattle.std.specs.Arc.{arc_value};
+ghost use Rattle.mcv_core.specs.Opening.{opened_view};
 
 use crate::script::{number_of, op, reply, server, shown, state};
 use crate::setup::{ONE, accepted_of, request, stored_after};
 use mcv_base::{CallId, LegId};
+use mcv_check::Accepted;
 use mcv_core::CoreFault;
 use mcv_hub::{
-    Entry, Guard, Hub, LegReply, Passes, Receipt, ReceiptFault, Report, Seat, TakenReply,
+    Entry, Guard, Hub, HubLedger, LegReply, Passes, Receipt, ReceiptFault, Report, Seat, TakenReply,
 };
 use std::marker::Brand;
 use std::process::Abort;
-use std::sync::Wait;
 use std::sync::ledger::{Blank, Ledger};
+use std::sync::{Arc, Wait};
 
 /// How many seats there are.
 const SEATS: u64 = 2;
@@ -37,7 +40,7 @@ take 1 = Owned(Hit { flags: 7, cas: None, body: [120] }) Receipt { chapter: 0, e
 take 1 = NoSuchCall";
 
 /// Plays a script of one seat: a line is an event and what the guard answers to it.
-fn play<B: Ledger, T: Ledger>(
+fn play<B: HubLedger, T: Ledger>(
     rt: &(impl AllocGlobal + Abort),
     guard: &mut Guard<'_, B, T>,
     seat: &mut Seat<B, T>,
@@ -51,7 +54,7 @@ fn play<B: Ledger, T: Ledger>(
     }
 }
 
-fn answer<B: Ledger, T: Ledger>(
+fn answer<B: HubLedger, T: Ledger>(
     rt: &(impl AllocGlobal + Abort),
     guard: &mut Guard<'_, B, T>,
     seat: &mut Seat<B, T>,
@@ -79,7 +82,7 @@ fn taken(rt: &(impl AllocGlobal + Abort), reply: Result<Option<TakenReply>, Core
 }
 
 /// The answer to an event of a server or a leg.
-fn moved<B: Ledger, T: Ledger>(
+fn moved<B: HubLedger, T: Ledger>(
     rt: &(impl AllocGlobal + Abort),
     guard: &mut Guard<'_, B, T>,
     word: &str,
@@ -111,7 +114,7 @@ fn receipt(entry: usize, call: u64) -> Receipt {
 }
 
 /// The hub closes over these receipts as wanted.
-fn check_close<B: Ledger, T: Ledger>(
+fn check_close<B: HubLedger, T: Ledger>(
     rt: &(impl AllocGlobal + Abort),
     guard: &mut Guard<'_, B, T>,
     seat: &mut Seat<B, T>,
@@ -139,7 +142,7 @@ fn is_of_two_calls(history: &[Entry]) -> bool {
 }
 
 /// What the hub says of the receipts of two calls.
-fn check_closes<B: Ledger, T: Ledger>(
+fn check_closes<B: HubLedger, T: Ledger>(
     rt: &(impl AllocGlobal + Abort),
     guard: &mut Guard<'_, B, T>,
     seat: &mut Seat<B, T>,
@@ -162,7 +165,7 @@ fn check_closes<B: Ledger, T: Ledger>(
 }
 
 /// Two sessions, one after the other, and what the hub says of their receipts.
-fn check_seats<B: Ledger, T: Ledger>(
+fn check_seats<B: HubLedger, T: Ledger>(
     rt: &(impl AllocGlobal + Abort),
     guard: &mut Guard<'_, B, T>,
     one: &mut Seat<B, T>,
@@ -175,29 +178,31 @@ fn check_seats<B: Ledger, T: Ledger>(
 }
 
 /// A hub with two seats that are numbered from the ledgers' parts.
-fn hub_of<B: Ledger, T: Ledger>(
+fn hub_of<B: HubLedger, T: Ledger>(
     rt: &(impl AllocGlobal + Abort),
-    text: &str,
+    accepted: Arc<Accepted>,
     begun: Blank,
     taken: Blank,
 ) -> (Hub<B, T>, Passes<B, T>)
     requires begun { (begun.name ≡ B.name) × (begun.parts ≡ B.parts) × (begun.parts ≡ SEATS + 1) }
     requires taken { (taken.name ≡ T.name) × (taken.parts ≡ T.parts) × (taken.parts ≡ SEATS + 1) }
+    requires opened { B.opened ≡ opened_view (arc_value accepted) [] }
 {
-    let accepted = accepted_of(rt, text).expect(rt, "covered routes");
     Hub::new(rt.alloc(), accepted, &[], 4, SEATS, begun, taken).expect(rt, "memory")
 }
 
 /// A hub has two seats, and no third one.
-fn two_seats<B: Ledger, T: Ledger>(
+fn two_seats<B: HubLedger, T: Ledger>(
     rt: &(impl AllocGlobal + Abort + Wait),
+    accepted: Arc<Accepted>,
     begun: Blank,
     taken: Blank,
 )
     requires begun { (begun.name ≡ B.name) × (begun.parts ≡ B.parts) × (begun.parts ≡ SEATS + 1) }
     requires taken { (taken.name ≡ T.name) × (taken.parts ≡ T.parts) × (taken.parts ≡ SEATS + 1) }
+    requires opened { B.opened ≡ opened_view (arc_value accepted) [] }
 {
-    let (hub, mut passes) = hub_of::<B, T>(rt, ONE, begun, taken);
+    let (hub, mut passes) = hub_of::<B, T>(rt, accepted, begun, taken);
     let mut pass = passes.pass();
     let mut one = passes.seat().expect(rt, "a seat");
     let mut other = passes.seat().expect(rt, "a second seat");
@@ -209,5 +214,6 @@ fn two_seats<B: Ledger, T: Ledger>(
 fn two_seats_have_their_receipts(rt: HostRuntime) {
     let begun = Blank::new(SEATS + 1);
     let taken = Blank::new(SEATS + 1);
-    two_seats::<Brand, Brand>(&rt, begun, taken);
+    let accepted = accepted_of(&rt, ONE).expect(&rt, "covered routes");
+    two_seats::<Brand, Brand>(&rt, accepted, begun, taken);
 }

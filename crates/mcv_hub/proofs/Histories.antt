@@ -50,7 +50,7 @@ use Rattle.mcv_hub.specs.declared.entry.Entry.TheVariants as entries
 use Rattle.mcv_hub.specs.Events.{BeginsChapter, IsHubEvent}
 use Rattle.mcv_hub.specs.History.{Begins, IsMoveOf, IsHistory, IsHistoryFrom, Writes, answer_change, answer_era, begins_one, begun_by, none, more, is_began, is_taken, taken_by, takes_one, with_entry, written, entries_in, leg_entry, era_entry}
 use Rattle.mcv_hub.specs.RemainingEntries.{break_count, may_write}
-use Rattle.mcv_hub.specs.State.{HasRoom, HistoryKeepsDeletes, HubView, IsHub, IsSameChapter}
+use Rattle.mcv_hub.specs.State.{HasRoom, HistoryKeepsDeletes, HubView, IsHub, IsOpenedAs, IsSameChapter}
 use Rattle.mcv_hub.proofs.EventsMayWrite.{Goes, GoesOn}
 
 run-push : (r : RoutesValue) (w : World) (ms : List Move) (m : Move) → run r w (ms ++ m ∷ []) ≡ after r (run r w ms) m
@@ -205,32 +205,45 @@ history_keeps_deletes v es covered h =
 
 -- ---- what events leave of the state's invariant
 
-abbrev pub Holds : (v : CoreView) (es : List Entry) (c b t bb tb len capacity places breaks : ℕ) → Type 0
-Holds v es c b t bb tb len capacity places breaks = IsHub v es c b t bb tb × HasRoom len capacity places (may_write v) × (breaks ≡ break_count v.routes)
+abbrev pub Holds : (start v : CoreView) (es : List Entry) (c b t bb tb len capacity places breaks : ℕ) → Type 0
+Holds start v es c b t bb tb len capacity places breaks = IsHub v es c b t bb tb × HasRoom len capacity places (may_write v) × (breaks ≡ break_count v.routes) × IsOpenedAs start v es c
 
-module _ (v w : CoreView) (es : List Entry) (c b t bb tb len capacity places breaks : ℕ) (h : Holds v es c b t bb tb len capacity places breaks) where
+-- it stays the hub that was opened so
+opened_goes : (start v w : CoreView) (es es2 : List Entry) (c : ℕ) (m : Option Move) → Leads v w m → Writes v.routes es m es2 → IsOpenedAs start v es c → IsOpenedAs start w es2 c
+opened_goes start v w es es2 c m leads writes h = record { routes = leads_routes v w m leads ∙ h.routes; from = λ first. history_goes v w (world_of start.rows) es es2 (h.from first) m leads writes }
+
+opened_same : (start v w : CoreView) (es es2 : List Entry) (c : ℕ) → w ≡ v → es2 ≡ es → IsOpenedAs start v es c → IsOpenedAs start w es2 c
+opened_same start v w es es2 c same items h = subst (λ z. IsOpenedAs start z es2 c) (sym same) (subst (λ z. IsOpenedAs start v z c) (sym items) h)
+
+-- no later chapter is the first one
+opened_turns : (start v w : CoreView) (es es2 : List Entry) (c c' : ℕ) → w.routes ≡ v.routes → 0 < c' → IsOpenedAs start v es c → IsOpenedAs start w es2 c'
+opened_turns start v w es es2 c c' same later h = record { routes = same ∙ h.routes; from = λ first. absurd (omega (arith, later, first)) }
+
+module _ {start : CoreView} (v w : CoreView) (es : List Entry) (c b t bb tb len capacity places breaks : ℕ) (h : Holds start v es c b t bb tb len capacity places breaks) where
   -- an event that doesn't begin a call
   pub goes_holds : (m : Option Move) → Goes v w m → (es2 : List Entry) (b2 t2 len2 capacity2 : ℕ) → Writes v.routes es m es2 → b2 ≡ b + begun_by m → t2 ≡ t + taken_by m → len2 ≡ len + written m → capacity2 ≡ capacity
-      → Holds w es2 c b2 t2 bb tb len2 capacity2 places breaks
+      → Holds start w es2 c b2 t2 bb tb len2 capacity2 places breaks
   goes_holds m g es2 b2 t2 len2 capacity2 writes more_begun more_taken longer kept = (
     hub_goes v w es es2 c b t bb tb b2 t2 m h.0 g.leads g.chapter writes more_begun more_taken,
     room_stays len len2 capacity capacity2 places (may_write v) (may_write w) (written m) h.1 g.spent longer kept,
     h.2 ∙ ap break_count (sym (leads_routes v w m g.leads)),
+    opened_goes start v w es es2 c m g.leads writes h.3,
   )
 
   -- a call that began
   pub begin_holds : (m : Option Move) → GoesOn v w m → (es2 : List Entry) (b2 t2 len2 capacity2 places2 : ℕ) → Writes v.routes es m es2 → b2 ≡ b + begun_by m → t2 ≡ t + taken_by m → len2 ≡ len + written m
-      → places2 ≤ capacity2 → places2 ≤ 2 ^ 62 → places2 + v.entries ≡ places + w.entries → Holds w es2 c b2 t2 bb tb len2 capacity2 places2 breaks
+      → places2 ≤ capacity2 → places2 ≤ 2 ^ 62 → places2 + v.entries ≡ places + w.entries → Holds start w es2 c b2 t2 bb tb len2 capacity2 places2 breaks
   begin_holds m g es2 b2 t2 len2 capacity2 places2 writes more_begun more_taken longer kept small grown = (
     hub_goes v w es es2 c b t bb tb b2 t2 m h.0 g.leads g.chapter writes more_begun more_taken,
     let within = h.1.within in
         let spent = g.spent in
         record { within = omega (arith, within, spent, longer, grown); kept = kept; small = small },
     h.2 ∙ ap break_count (sym (leads_routes v w m g.leads)),
+    opened_goes start v w es es2 c m g.leads writes h.3,
   )
 
   -- a call that was refused, when the history had more room
-  pub refused_holds : w ≡ v → (es2 : List Entry) (len2 capacity2 : ℕ) → es2 ≡ es → len2 ≡ len → capacity ≤ capacity2 → Holds w es2 c b t bb tb len2 capacity2 places breaks
+  pub refused_holds : w ≡ v → (es2 : List Entry) (len2 capacity2 : ℕ) → es2 ≡ es → len2 ≡ len → capacity ≤ capacity2 → Holds start w es2 c b t bb tb len2 capacity2 places breaks
   refused_holds same es2 len2 capacity2 items longer grown = (
     subst (λ z. IsHub z es2 c b t bb tb) (sym same) (subst (λ z. IsHub v z c b t bb tb) (sym items) h.0),
     let room = room_same v w len capacity places same h.1 in
@@ -238,12 +251,13 @@ module _ (v w : CoreView) (es : List Entry) (c b t bb tb len capacity places bre
         let kept = room.kept in
         record { within = omega (arith, within, longer); kept = omega (arith, kept, grown); small = room.small },
     h.2 ∙ ap (λ z. break_count z.routes) (sym same),
+    opened_same start v w es es2 c same items h.3,
   )
 
   -- a chapter that began
-  pub turn_holds : (es' : List Entry) (c' places' bb' tb' len' capacity' : ℕ) → w.routes ≡ v.routes → IsQuiet w → c' ≡ w.chapter → bb' ≡ b → tb' ≡ t → bb' < 2 ^ 63 → tb' < 2 ^ 63 → may_write w ≤ may_write v → places' ≤ places
-      → (places' ≡ places) ⊎ (may_write w ≤ places') → es' ≡ [] → len' ≡ 0 → capacity' ≡ capacity → Holds w es' c' b t bb' tb' len' capacity' places' breaks
-  turn_holds es' c' places' bb' tb' len' capacity' same q chapter begun taken small few less lesser either empty zero kept_same = (
+  pub turn_holds : (es' : List Entry) (c' places' bb' tb' len' capacity' : ℕ) → w.routes ≡ v.routes → IsQuiet w → 0 < c' → c' ≡ w.chapter → bb' ≡ b → tb' ≡ t → bb' < 2 ^ 63 → tb' < 2 ^ 63 → may_write w ≤ may_write v → places' ≤ places
+      → (places' ≡ places) ⊎ (may_write w ≤ places') → es' ≡ [] → len' ≡ 0 → capacity' ≡ capacity → Holds start w es' c' b t bb' tb' len' capacity' places' breaks
+  turn_holds es' c' places' bb' tb' len' capacity' same q later chapter begun taken small few less lesser either empty zero kept_same = (
     subst (λ z. IsHub w z c' b t bb' tb') (sym empty) (hub_after_turn v w c' b t bb' tb' h.0.covered same q chapter begun taken small few),
     let within = h.1.within in
         let kept = h.1.kept in
@@ -254,31 +268,33 @@ module _ (v w : CoreView) (es : List Entry) (c b t bb tb len capacity places bre
           small = omega (arith, least, lesser);
         },
     h.2 ∙ ap break_count (sym same),
+    opened_turns start v w es es' c c' same later h.3,
   )
 
 spooled_is : (o : Option OpenedRecord) (s : LegRow) → option_map spooled_row o ≡ Some s → s.state ≡ InSpool
 spooled_is None s e = no_some e
 spooled_is (Some x) s e = ap (λ (z : LegRow). z.state) (sym (same_some e))
 
-opened_history : (r : RoutesValue) (records : List (ℕ × SpoolRecord)) → IsHistory r (world_of (opened_view r records).rows) []
+opened_history : (r : RoutesValue) (records : List (ℕ × SpoolRecord)) → let w = world_of (opened_view r records).rows in IsHistoryFrom r w w []
 opened_history r records =
     let known = known_records r.servers records in
     let since = since_at (breaks_of r) 0 in
     let w = opened since known in
     let o = spooled_rows_open r w (opened_is_core r since known) (λ k. refl) (λ n s e. spooled_is (slice_get known n) s e) (moments_have_eras r 0) in
-    record { opening = world_of w; from = record { moves = []; are = none; opens = o.0; legal = tt; replays = o.1 } }
+    record { moves = []; are = none; opens = o.0; legal = tt; replays = o.1 }
 
 -- a core that was opened
-pub opened_holds : (w : CoreView) (r : RoutesValue) (records : List (ℕ × SpoolRecord)) (es : List Entry) (b t len capacity places breaks : ℕ) → w ≡ opened_view r records → AreCovered r → es ≡ [] → b ≡ 0 → t ≡ 0 → len ≡ 0
-    → may_write w ≤ places → places ≤ capacity → places ≤ 2 ^ 62 → breaks ≡ break_count r → Holds w es 0 b t 0 0 len capacity places breaks
-opened_holds w r records es b t len capacity places breaks same covered empty begun taken zero fewer kept small count = (
+pub opened_holds : (start w : CoreView) (r : RoutesValue) (records : List (ℕ × SpoolRecord)) (es : List Entry) (b t len capacity places breaks : ℕ) → start ≡ opened_view r records → w ≡ opened_view r records → AreCovered r → es ≡ [] → b ≡ 0 → t ≡ 0 → len ≡ 0
+    → may_write w ≤ places → places ≤ capacity → places ≤ 2 ^ 62 → breaks ≡ break_count r → Holds start w es 0 b t 0 0 len capacity places breaks
+opened_holds start w r records es b t len capacity places breaks its same covered empty begun taken zero fewer kept small count = (
   subst (λ z. IsHub z es 0 b t 0 0) (sym same) (subst (λ z. IsHub (opened_view r records) z 0 b t 0 0) (sym empty) hub),
   record { within = omega (arith, zero, fewer); kept = kept; small = small },
   count ∙ ap (λ z. break_count z.routes) (sym same),
+  subst (λ z. IsOpenedAs z w es 0) (sym its) (subst (λ z. IsOpenedAs (opened_view r records) z es 0) (sym same) (subst (λ z. IsOpenedAs (opened_view r records) (opened_view r records) z 0) (sym empty) (record { routes = refl; from = λ first. opened_history r records }))),
 )
   where
     hub : IsHub (opened_view r records) [] 0 b t 0 0
-    hub = record { covered = covered; legal = opened_history r records; chapter_is = refl; begun_is = omega (arith, begun); taken_is = omega (arith, taken); begun_small = omega arith; taken_small = omega arith }
+    hub = record { covered = covered; legal = record { opening = world_of (opened_view r records).rows; from = opened_history r records }; chapter_is = refl; begun_is = omega (arith, begun); taken_is = omega (arith, taken); begun_small = omega arith; taken_small = omega arith }
 
 -- ---- what events say of the hub
 

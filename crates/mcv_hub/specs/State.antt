@@ -12,7 +12,7 @@ use Rattle.mcv_core.specs.CoreView.{CoreView}
 use Rattle.mcv_core.specs.KeptDeletes.{KeepsDeletes}
 use Rattle.mcv_core.specs.View.{core_view}
 use Rattle.mcv_core.specs.declared.dispatcher.Dispatcher.{Dispatcher}
-use Rattle.mcv_hub.specs.History.{IsHistory, is_began, is_taken}
+use Rattle.mcv_hub.specs.History.{IsHistory, IsHistoryFrom, is_began, is_taken}
 use Rattle.mcv_hub.specs.declared.entry.Entry.{Entry}
 
 pub record HubView : Type 0 where
@@ -42,11 +42,20 @@ pub record HistoryKeepsDeletes (v : CoreView) (history : List Entry) : Type 0 wh
   pub legal : IsHistory v.routes (world_of v.rows) history
   pub keeps : KeepsDeletes v (run v.routes legal.opening legal.from.moves)
 
+-- the hub is the one that was opened with this core: it has its routes, and in its first chapter a history that leads from there
+pub record IsOpenedAs (opened v : CoreView) (history : List Entry) (chapter : ℕ) : Type 0 where
+  pub routes : v.routes ≡ opened.routes
+  pub from : chapter ≡ 0 → IsHistoryFrom v.routes (world_of opened.rows) (world_of v.rows) history
+
 -- the entries that the core may still write have their places, and all of them can be counted
 pub record HasRoom (len capacity places may_write : ℕ) : Type 0 where
   pub within : len + may_write ≤ places
   pub kept : places ≤ capacity
   pub small : places ≤ 2 ^ 62
+
+-- the state is of the hub that was opened with this core
+abbrev pub IsOf : CoreView → HubView → Type 0
+IsOf opened v = IsOpenedAs opened (core_view v.core) v.history v.chapter
 
 -- ---- what an event leaves
 

@@ -8,9 +8,10 @@ ghost use Rattle.mcv_core.specs.View.{core_view};
 ghost use Rattle.mcv_hub.specs.Events.{IsHubEvent, IsHubTurn, IsReceived, IsRequested, taken_part};
 ghost use Rattle.mcv_hub.specs.History.{is_began, is_taken};
 ghost use Rattle.mcv_hub.specs.Receipts.{ArePassed, AreRefused};
-ghost use Rattle.mcv_hub.specs.State.{HistoryKeepsDeletes, IsSame};
+ghost use Rattle.mcv_hub.specs.State.{HistoryKeepsDeletes, IsOf, IsSame};
 
 use crate::entry::Entry;
+use crate::ledger::HubLedger;
 use crate::pass::Pass;
 use crate::receipts::{Receipt, ReceiptFault, Report};
 use crate::reply::LegReply;
@@ -28,12 +29,12 @@ use std::time::Duration;
 
 /// The locked state. While it lives, the pass with which it was got is borrowed.
 #[derive(Drop)]
-pub struct Guard<'a, B: Ledger, T: Ledger> {
+pub struct Guard<'a, B: HubLedger, T: Ledger> {
     state: MutexGuard<'a, HubState<B, T>>,
     pass: PhantomData<&'a mut Pass>,
 }
 
-impl<'a, B: Ledger, T: Ledger> Model for Guard<'a, B, T> {
+impl<'a, B: HubLedger, T: Ledger> Model for Guard<'a, B, T> {
     ghost use Rattle.std.specs.Coded.{codes};
     ghost use Rattle.mcv_core.specs.contracts.dispatcher.Dispatcher as core_type;
     ghost use Rattle.mcv_hub.specs.contracts.entry.Entry as entry_type;
@@ -48,7 +49,7 @@ impl<'a, B: Ledger, T: Ledger> Model for Guard<'a, B, T> {
     ghost view = { λ g. mutex_guard_value g.state };
 }
 
-impl<'a, B: Ledger, T: Ledger> Guard<'a, B, T> {
+impl<'a, B: HubLedger, T: Ledger> Guard<'a, B, T> {
     /// The locked state, got with a pass.
     pub(crate) fn new(state: MutexGuard<'a, HubState<B, T>>) -> Guard<'a, B, T> {
         Guard {
@@ -236,5 +237,12 @@ impl<'a, B: Ledger, T: Ledger> Guard<'a, B, T> {
         ensures { HistoryKeepsDeletes (core_view self.now.core) self.now.history }
     {
         self.state.deletes_are_kept()
+    }
+
+    /// The hub has the routes that it was opened with, and in its first chapter a history that leads from how it was opened.
+    pub fn is_opened(&self)
+        ensures { IsOf B.opened self.now }
+    {
+        self.state.is_opened()
     }
 }

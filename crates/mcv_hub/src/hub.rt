@@ -1,14 +1,20 @@
 //! The lock, and the bells on which threads wait.
 
 ghost use Rattle.std.specs.Prelude.{◌≡◌, ◌+◌, IfErr, IfOk};
+ghost use Rattle.std.specs.Arc.{arc_value};
+ghost use Rattle.std.specs.Coded.{Coded-set};
+ghost use Rattle.mcv_core.specs.Opening.{opened_view};
 ghost use Rattle.mcv_core.specs.declared.fault.CoreFault.TheVariants.{Memory as OutOfMemory};
+ghost use Rattle.mcv_route.specs.Codes.{routes_code};
 
 use crate::guard::Guard;
+use crate::ledger::HubLedger;
 use crate::pass::{Pass, Passes};
 use crate::state::HubState;
 use mcv_base::{CallId, ServerId};
 use mcv_check::Accepted;
 use mcv_core::CoreFault;
+use mcv_route::Routes;
 use mcv_spool::SpoolRecord;
 use std::alloc::{AllocError, Global};
 use std::hint::spin_loop;
@@ -35,13 +41,15 @@ pub enum Bell {
 /// The state that threads share: one lock, and beside it a bell for each server's worker, bells for calls that sessions
 /// await, one for the spool's worker, one for the replayer and one for a new chapter.
 #[derive(Drop)]
-pub struct Hub<B: Ledger, T: Ledger> {
+pub struct Hub<B: HubLedger, T: Ledger> {
+    accepted: Arc<Accepted>,
     state: Mutex<HubState<B, T>>,
     servers: Vec<Condvar>,
     calls: Vec<Condvar>,
     spool: Condvar,
     replayer: Condvar,
     chapter: Condvar,
+    ghost routes: { arc_value accepted ≡ B.opened.routes } by { Coded-set routes_code (arc_value accepted) B.opened.routes },
 }
 
 /// As many bells as asked.
@@ -53,7 +61,7 @@ fn bells(alloc: Global, count: usize) -> Result<Vec<Condvar>, AllocError> {
     Ok(bells)
 }
 
-impl<B: Ledger, T: Ledger> Hub<B, T> {
+impl<B: HubLedger, T: Ledger> Hub<B, T> {
     /// A hub over these routes with the records that the spool held, in its first chapter, with bells for their servers
     /// and for this many sessions, and what makes its passes and `seats` seats. The one error is Memory.
     pub fn new(
@@ -67,6 +75,7 @@ impl<B: Ledger, T: Ledger> Hub<B, T> {
     ) -> Result<(Hub<B, T>, Passes<B, T>), CoreFault>
         requires begun { (begun.name ≡ B.name) × (begun.parts ≡ B.parts) × (begun.parts ≡ seats + 1) }
         requires taken { (taken.name ≡ T.name) × (taken.parts ≡ T.parts) × (taken.parts ≡ seats + 1) }
+        requires opened { B.opened ≡ opened_view (arc_value accepted) records.now }
         ensures seats { IfOk result (λ r. r.1.left ≡ seats) }
         ensures err { IfErr result (λ fault. fault ≡ OutOfMemory) }
     {
@@ -76,8 +85,12 @@ impl<B: Ledger, T: Ledger> Hub<B, T> {
         let Ok(calls) = bells(alloc, sessions) else {
             return Err(CoreFault::Memory);
         };
-        let (state, begun, taken) = HubState::new(alloc, accepted, records, begun, taken)?;
+        let Ok(known) = Arc::try_clone(&accepted) else {
+            return Err(CoreFault::Memory);
+        };
+        let (state, begun, taken) = HubState::new(alloc, known, records, begun, taken)?;
         let hub = Hub {
+            accepted,
             state: Mutex::new(state),
             servers,
             calls,
@@ -86,6 +99,13 @@ impl<B: Ledger, T: Ledger> Hub<B, T> {
             chapter: Condvar::new(),
         };
         Ok((hub, Passes::new(seats, begun, taken)))
+    }
+
+    /// The routes with which it was opened.
+    pub fn routes(&self) -> &Routes
+        ensures { result.now ≡ B.opened.routes }
+    {
+        self.accepted.routes()
     }
 
     /// Waits for the lock. It is held for about a microsecond, so it is tried for a while before the thread sleeps.

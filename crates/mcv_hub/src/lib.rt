@@ -3,13 +3,15 @@
 //!
 //! A thread has a `Pass`, and gets the lock with it; while its `Guard` lives the pass is borrowed. Each event on the guard
 //! is that event of the core and writes the entry of its move, so whatever is seen under the lock is what a legal history
-//! leads to, and deletes are kept in it (`Guard::deletes_are_kept`).
+//! leads to, and deletes are kept in it (`Guard::deletes_are_kept`). A type, `HubLedger`, stands for the hub, so that what
+//! was seen of it at different times is known to be of one hub (`Guard::is_opened`).
 #![tactic(auto)]
 
 mod entry;
 mod guard;
 mod history;
 mod hub;
+mod ledger;
 mod pass;
 mod receipts;
 mod reply;
@@ -19,6 +21,7 @@ mod state;
 pub use crate::entry::Entry;
 pub use crate::guard::Guard;
 pub use crate::hub::{Bell, Hub};
+pub use crate::ledger::HubLedger;
 pub use crate::pass::{Pass, Passes};
 pub use crate::receipts::{Receipt, ReceiptFault, Report};
 pub use crate::reply::LegReply;

@@ -15,6 +15,7 @@ ghost use Rattle.mcv_hub.specs.Receipts.{ArePassed, AreRefused};
 
 use crate::entry::Entry;
 use crate::history::{change_of, count_began, count_taken, era_entry, leg_entry, write};
+use crate::ledger::HubLedger;
 use crate::receipts::{Receipt, ReceiptFault, Report, count_older};
 use crate::reply::LegReply;
 use crate::seat::{Asked, Seat, TakenReply};
@@ -39,7 +40,7 @@ const MOST_COUNTED: u64 = (1 << 63) - 1;
 
 /// The core, with the history of the chapter and the two books.
 #[derive(Drop)]
-pub struct HubState<B: Ledger, T: Ledger> {
+pub struct HubState<B: HubLedger, T: Ledger> {
     core: Core<Fnv>,
     history: Vec<Entry>,
     /// How many entries the chapter has at most, of those that began.
@@ -53,11 +54,11 @@ pub struct HubState<B: Ledger, T: Ledger> {
     taken_before: u64,
 }
 
-impl<B: Ledger, T: Ledger> Model for HubState<B, T> {
+impl<B: HubLedger, T: Ledger> Model for HubState<B, T> {
     ghost use Rattle.std.specs.Coded.{codes};
     ghost use Rattle.mcv_core.specs.contracts.dispatcher.Dispatcher as core_type;
     ghost use Rattle.mcv_hub.specs.contracts.entry.Entry as entry_type;
-    ghost use Rattle.mcv_hub.specs.State.{HubView, IsHub, HasRoom};
+    ghost use Rattle.mcv_hub.specs.State.{HubView, IsHub, IsOpenedAs, HasRoom};
 
     ghost Value = { HubView };
 
@@ -69,7 +70,7 @@ impl<B: Ledger, T: Ledger> Model for HubState<B, T> {
 
     ghost view = { λ s. record { core = s.core.dispatcher; history = s.history.items; chapter = s.chapter; begun = s.begun.total; taken = s.taken.total; begun_before = s.begun_before; taken_before = s.taken_before } };
 
-    ghost invariant = { λ s. IsHub (core_view s.core.dispatcher) s.history.items s.chapter s.begun.total s.taken.total s.begun_before s.taken_before × HasRoom (vec_len s.history) (vec_capacity s.history) s.places (may_write (core_view s.core.dispatcher)) × (s.breaks ≡ break_count (core_view s.core.dispatcher).routes) };
+    ghost invariant = { λ s. IsHub (core_view s.core.dispatcher) s.history.items s.chapter s.begun.total s.taken.total s.begun_before s.taken_before × HasRoom (vec_len s.history) (vec_capacity s.history) s.places (may_write (core_view s.core.dispatcher)) × (s.breaks ≡ break_count (core_view s.core.dispatcher).routes) × IsOpenedAs B.opened (core_view s.core.dispatcher) s.history.items s.chapter };
 }
 
 /// How many breaks the routes have, which are covered.
@@ -121,8 +122,8 @@ fn places_for(one: usize, other: usize) -> Option<usize>
     Some(places)
 }
 
-impl<B: Ledger, T: Ledger> HubState<B, T> {
-    ghost use Rattle.mcv_hub.specs.State.{HistoryKeepsDeletes, IsCallOf, IsSame};
+impl<B: HubLedger, T: Ledger> HubState<B, T> {
+    ghost use Rattle.mcv_hub.specs.State.{HistoryKeepsDeletes, IsCallOf, IsOf, IsSame};
 
     /// A core over these routes with the records that the spool held, in its first chapter, and the shares that count all
     /// its calls and replies. The one error is Memory.
@@ -135,6 +136,7 @@ impl<B: Ledger, T: Ledger> HubState<B, T> {
     ) -> Result<(HubState<B, T>, Share<B>, Share<T>), CoreFault>
         requires begun { (begun.name ≡ B.name) × (begun.parts ≡ B.parts) }
         requires taken { (taken.name ≡ T.name) × (taken.parts ≡ T.parts) }
+        requires opened { B.opened ≡ opened_view (arc_value accepted) records.now }
         ensures view { IfOk result (λ r. core_view r.0.core ≡ opened_view (arc_value accepted) records.now) }
         ensures history { IfOk result (λ r. (r.0.history ≡ []) × (r.0.chapter ≡ 0)) }
         ensures begun { IfOk result (λ r. (r.1.parts ≡ B.parts) × (r.1.amount ≡ 0) × (r.0.begun ≡ 0)) }
@@ -403,6 +405,13 @@ impl<B: Ledger, T: Ledger> HubState<B, T> {
         ensures taken { self.now.taken ≡ self.now.taken_before + count_by is_taken result.now }
     {
         self.history.as_slice()
+    }
+
+    /// The hub is the one that was opened so.
+    pub(crate) fn is_opened(&self)
+        ensures { IsOf B.opened self.now }
+    {
+        let _core = &self.core;
     }
 
     /// Deletes are kept in the world that the history leads to.

@@ -1,11 +1,13 @@
 //! Over which connections legs are sent, and what their replies are.
 
-ghost use Rattle.std.specs.Prelude.{◌≡◌, ◌+◌};
+ghost use Rattle.std.specs.Prelude.{◌≡◌, ◌+◌, []};
+ghost use Rattle.std.specs.Arc.{arc_value};
+ghost use Rattle.mcv_core.specs.Opening.{opened_view};
 
 use crate::memory::{Course, End, MemoryDial, Nobody, Seen};
 use mcv_base::{LegRequest, Op, Reply, Rest};
 use mcv_check::Accepted;
-use mcv_hub::{Hub, Pass};
+use mcv_hub::{Hub, HubLedger, Pass};
 use mcv_net::{Notice, TcpLink};
 use mcv_proxy::{Link, LinkFault};
 use mcv_verdict::{Judgement, judge_input};
@@ -27,11 +29,17 @@ pub(crate) fn accepted_of(rt: &impl Abort, alloc: Global, text: &str) -> Arc<Acc
 }
 
 /// A pass of a hub.
-fn pass_of<B: Ledger, T: Ledger>(rt: &impl Abort, alloc: Global, begun: Blank, taken: Blank) -> Pass
+fn pass_of<B: HubLedger, T: Ledger>(
+    rt: &impl Abort,
+    alloc: Global,
+    accepted: Arc<Accepted>,
+    begun: Blank,
+    taken: Blank,
+) -> Pass
     requires begun { (begun.name ≡ B.name) × (begun.parts ≡ B.parts) × (begun.parts ≡ 2) }
     requires taken { (taken.name ≡ T.name) × (taken.parts ≡ T.parts) × (taken.parts ≡ 2) }
+    requires opened { B.opened ≡ opened_view (arc_value accepted) [] }
 {
-    let accepted = accepted_of(rt, alloc, CONFIG);
     let made = Hub::<B, T>::new(alloc, accepted, &[], 1, 1, begun, taken);
     let (_hub, passes) = made.expect(rt, "memory");
     passes.pass()
@@ -313,7 +321,8 @@ fn check_row<R: Wait + Abort + Copy + Drop>(
 fn legs_go_over_the_kept_connection_or_a_new_one(rt: HostRuntime) {
     let begun = Blank::new(2);
     let taken = Blank::new(2);
-    let pass = pass_of::<Brand, Brand>(&rt, rt.alloc(), begun, taken);
+    let accepted = accepted_of(&rt, rt.alloc(), CONFIG);
+    let pass = pass_of::<Brand, Brand>(&rt, rt.alloc(), accepted, begun, taken);
     for row in ROWS {
         check_row(rt, rt.alloc(), &pass, row, true);
     }
@@ -323,7 +332,8 @@ fn legs_go_over_the_kept_connection_or_a_new_one(rt: HostRuntime) {
 fn legs_that_are_not_begun_are_sent_too(rt: HostRuntime) {
     let begun = Blank::new(2);
     let taken = Blank::new(2);
-    let pass = pass_of::<Brand, Brand>(&rt, rt.alloc(), begun, taken);
+    let accepted = accepted_of(&rt, rt.alloc(), CONFIG);
+    let pass = pass_of::<Brand, Brand>(&rt, rt.alloc(), accepted, begun, taken);
     for row in ROWS {
         check_row(rt, rt.alloc(), &pass, row, false);
     }

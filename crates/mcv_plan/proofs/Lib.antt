@@ -20,3 +20,4 @@ pub mod CoursesEvaluate
 pub mod CountsAdd
 pub mod KnownOutcomes
 pub mod FirstWave
+pub mod OutcomesDecide

@@ -1,8 +1,9 @@
 -- That a call's evaluation does what the definitions of routes say: which legs are launched, and which reply it has.
-use Rattle.std.specs.Prelude.{◌≡◌, ◌<◌, ◌≤◌, ℕ, zero, ⊤, Bool, List, map, length, Option, Some, None}
+use Rattle.std.specs.Prelude.{◌≡◌, ◌<◌, ◌≤◌, ℕ, zero, ⊤, Bool, List, map, length, slice_index_or, Option, Some, None}
 use Rattle.std.specs.List.{AllPairs, filter, list_any}
 use Rattle.mcv_base.specs.declared.operation.Op.{Op}
 use Rattle.mcv_base.specs.declared.reply.FixedReply.TheVariants.{ErrorRoute}
+use Rattle.mcv_base.specs.declared.reply.Outcome.{Outcome}
 use Rattle.mcv_route.specs.declared.launch.Launch.{Launch}
 use Rattle.mcv_route.specs.Launched.{launched}
 use Rattle.mcv_route.specs.Outcomes.{Choice, History, Outcomes, is_same, outcomes}
@@ -19,7 +20,7 @@ use Rattle.mcv_plan.specs.Counts.{legs_in}
 use Rattle.mcv_plan.specs.Entries.{numbers}
 use Rattle.mcv_plan.specs.Evaluation.{leg_at}
 use Rattle.mcv_plan.specs.PastOutcomes.{IsLegal, IsOnce, Past, own_of}
-use Rattle.mcv_plan.specs.ReachedAnswers.{answer_of}
+use Rattle.mcv_plan.specs.ReachedAnswers.{answer_of, outcome_in}
 use Rattle.mcv_plan.specs.State.{State, answered, entries, sends}
 
 abbrev pub position_at : List Launch → ℕ → List ℕ
@@ -67,3 +68,13 @@ pub record Evaluates (t : Tree) (situation : Situation) (c : Choice) (ls : List 
   pub once : (past : Past) → IsOnce (sends (own_of past) s)
   -- never more than the route has
   pub bound : length ls ≤ legs_in t situation
+
+-- ---- one entry
+
+-- these outcomes, by the legs' numbers, are those of the past
+abbrev pub AreOf : List (Option Outcome) → Past → Type 0
+AreOf known past = (k : ℕ) → slice_index_or known k None ≡ outcome_in (own_of past k)
+
+-- whether the route launches the entry after these outcomes
+abbrev pub is_launched_by : Tree → Situation → Choice → List Launch → Past → ℕ → Bool
+is_launched_by t s c ls past entry = has_position (launched t s c (outcomes (history_at ls past))) (position_at ls entry)

@@ -37,6 +37,9 @@ at_once f = record { answer = fixed_answer f; came = 0 }
 abbrev pub answer_of : Option Reached → Option Answer
 answer_of x = option_map (λ a. a.answer) x
 
+abbrev pub outcome_in : Option Reached → Option Outcome
+outcome_in x = option_map (λ a. a.answer.outcome) x
+
 abbrev pub reached : ℕ → Outcome → ℕ → Reached
 reached e x t = record { answer = of_entry e x; came = t }
 

@@ -1,14 +1,16 @@
 //! A call's evaluation: the first wave of its legs, and after each outcome those that it launches.
 
-ghost use Rattle.std.specs.Prelude.{◌≡◌, ◌∷◌, ◌<◌, IfOk, [], length, slice_index};
+ghost use Rattle.std.specs.Prelude.{◌≡◌, ◌∷◌, ◌<◌, IfOk, List, [], length, slice_index};
+ghost use Rattle.mcv_route.specs.declared.launch.Launch.{Launch as Leg};
+ghost use Rattle.mcv_route.specs.Outcomes.{Choice as Chosen};
 ghost use Rattle.mcv_route.specs.Situation.{Situation};
 ghost use Rattle.mcv_route.specs.Tree.{Tree};
 ghost use Rattle.mcv_rules.specs.PlanInMemory.{Serves};
 ghost use Rattle.mcv_plan.specs.Entries.{legs_of};
 ghost use Rattle.mcv_plan.specs.Evaluation.{IsAfter, IsAwaited, legs_count, shape};
 ghost use Rattle.mcv_plan.specs.KnownOutcomes.{own_in};
-ghost use Rattle.mcv_plan.specs.Laws.{Evaluates};
-ghost use Rattle.mcv_plan.specs.PastOutcomes.{Past, new_of, own_of};
+ghost use Rattle.mcv_plan.specs.Laws.{AreOf, Evaluates, is_launched_by};
+ghost use Rattle.mcv_plan.specs.PastOutcomes.{IsLegal, Past, new_of, own_of};
 ghost use Rattle.mcv_plan.specs.State.{holds, sends, wave};
 
 use crate::answer::Answer;
@@ -71,10 +73,13 @@ impl EvalState {
         self.reply
     }
 
-    /// Whether the leg with this number is launched, where exactly these outcomes are known, by the legs' numbers. Takes
-    /// no memory; the outcomes that have come so far don't matter.
+    /// Whether the leg with this number is launched, where exactly these outcomes are known, by the legs' numbers: as the
+    /// route's definitions say, in whatever order they came. Takes no memory; the outcomes that have come so far don't
+    /// matter.
     pub fn is_launched(&self, outcomes: &[Option<Outcome>], entry: usize) -> bool
-        ensures { result ≡ holds entry (sends (own_in outcomes.now) (shape self.now)) }
+        ensures known { result ≡ holds entry (sends (own_in outcomes.now) (shape self.now)) }
+        ensures rules { (t : Tree) (s : Situation) (c : Chosen) (ls : List Leg) (past : Past) → Evaluates t s c ls (shape self.now) → IsLegal (shape self.now) past → AreOf outcomes.now past
+            → entry < length ls → result ≡ is_launched_by t s c ls past entry }
     {
         launches(&self.course, outcomes, entry)
     }

@@ -1,35 +1,35 @@
 -- What a seat counts, by what an event of the hub is.
-use Rattle.std.proofs.Common.{◌≡◌, ◌+◌, ℕ, List, Option, None, Some, Result, Ok, Err, ap, arith}
+use Rattle.std.proofs.Common.{◌≡◌, ◌+◌, ℕ, List, Option, None, Some, Result, Ok, Err, ap, arith, length, refl, subst, sym}
 use Rattle.std.specs.Prelude.{IfErr, IfNone, IfOk, IfSome, OnErr, OnOk}
 use Rattle.mcv_base.specs.declared.request.CallId.{CallId}
 use Rattle.mcv_base.specs.declared.request.Request.{Request}
+use Rattle.mcv_pools.specs.Hash.{fnv_index}
 use Rattle.mcv_pools.specs.Symbol.{SymbolValue}
-use Rattle.mcv_core.specs.Asking as asking
+use Rattle.mcv_core.specs.CoreView.{CoreView}
 use Rattle.mcv_core.specs.Events.{IsBegun, IsTaken}
 use Rattle.mcv_core.specs.View.{core_view}
 use Rattle.mcv_core.specs.declared.fault.CoreFault.{CoreFault}
 use Rattle.mcv_core.specs.declared.fault.CoreFault.TheVariants.{UnknownPrefix, BadKey, LegsFull, ChapterFull, NothingWaiting, NoSuchLeg, Busy, ClockBack, Memory, NoSuchCall}
-use Rattle.mcv_core.specs.CoreView.{CoreView}
 use Rattle.mcv_hub.specs.Events.{IsHubEvent, taken_part}
 use Rattle.mcv_hub.specs.History.{begun_by, taken_by}
-use Rattle.mcv_hub.specs.State.{HubView}
+use Rattle.mcv_hub.specs.State.{HistoryKeepsDeletes, HubView, IsOf}
 use Rattle.mcv_hub.specs.declared.seat.TakenReply.{TakenReply}
-use Rattle.mcv_proxy.specs.Desk.{IsRefusal}
-
--- a call is begun for no other reason
-pub refusal_of : (v : CoreView) (chosen : SymbolValue → List ℕ → ℕ) (request : Request) (key : ℕ) (fault : CoreFault) → asking.IsUnbegun v chosen request key fault → IsRefusal fault
-refusal_of v chosen request key UnknownPrefix h = tt
-refusal_of v chosen request key BadKey h = tt
-refusal_of v chosen request key LegsFull h = tt
-refusal_of v chosen request key ChapterFull h = tt
-refusal_of v chosen request key NothingWaiting h = h
-refusal_of v chosen request key NoSuchLeg h = h
-refusal_of v chosen request key Busy h = h
-refusal_of v chosen request key ClockBack h = h
-refusal_of v chosen request key Memory h = tt
-refusal_of v chosen request key NoSuchCall h = h
+use Rattle.mcv_proxy.specs.Desk.{AreFor, IsUnanswered, IsUnbegun, WasRefused}
+use Rattle.mcv_text.specs.Request.{RequestValue, request_value}
 
 -- ---- a call begins
+
+-- memory ran out before
+pub without_memory : (old : HubView) (chosen : SymbolValue → List ℕ → ℕ) (request : Request) (key : ℕ) → IsHubEvent (IsBegun (core_view old.core) chosen request key (Err Memory)) old old
+without_memory old chosen request key = record {
+  move = None;
+  event = record { cause = tt; none = refl; same = refl };
+  writes = refl;
+  begun = omega arith;
+  taken = omega arith;
+  chapter = record { chapter = refl; begun_before = refl; taken_before = refl };
+  opening = λ world leads. leads;
+}
 
 module _ (chosen : SymbolValue → List ℕ → ℕ) (request : Request) (key : ℕ) (old new : HubView) where
   pub begun_counts : (r : Result CallId CoreFault) (a a2 : ℕ) → IsHubEvent (IsBegun (core_view old.core) chosen request key r) old new → a2 + old.begun ≡ a + new.begun → OnOk r (a2 ≡ a + 1)
@@ -44,9 +44,28 @@ module _ (chosen : SymbolValue → List ℕ → ℕ) (request : Request) (key : 
   begun_takes (Ok call) a a2 h sum = let none = ap taken_by h.event.move in let more = h.taken in omega (arith, sum, none, more)
   begun_takes (Err fault) a a2 h sum = let none = ap taken_by h.event.none in let more = h.taken in omega (arith, sum, none, more)
 
-  pub unbegun_refusal : (r : Result CallId CoreFault) → IsHubEvent (IsBegun (core_view old.core) chosen request key r) old new → IfErr r IsRefusal
-  unbegun_refusal (Ok call) h = tt
-  unbegun_refusal (Err fault) h = refusal_of (core_view old.core) chosen request key fault h.event.cause
+-- a refusal has its cause in the state before
+pub was_refused : (start : CoreView) (request : Request) (key : ℕ) (old new : HubView) (r : Result CallId CoreFault) → IsOf start old → HistoryKeepsDeletes (core_view old.core) old.history → IsHubEvent (IsBegun (core_view old.core) fnv_index request key r) old new
+    → IfErr r (WasRefused start (request_value request) key)
+was_refused start request key old new (Ok call) hub keeps h = tt
+was_refused start request key old new (Err fault) hub keeps h = record { state = old; seen = record { hub = hub; keeps = keeps }; asked = request; its = refl; cause = h.event.cause }
+
+-- why the request isn't answered then
+unbegun : (start : CoreView) (request : RequestValue) (taken : List TakenReply) (fault : CoreFault) → AreFor start.routes request taken → WasRefused start request (length taken) fault → IsUnanswered start request taken fault
+unbegun start request taken UnknownPrefix are h = (are, h)
+unbegun start request taken BadKey are h = (are, h)
+unbegun start request taken LegsFull are h = (are, h)
+unbegun start request taken ChapterFull are h = (are, h)
+unbegun start request taken NothingWaiting are h = (are, h)
+unbegun start request taken NoSuchLeg are h = (are, h)
+unbegun start request taken Busy are h = (are, h)
+unbegun start request taken ClockBack are h = (are, h)
+unbegun start request taken Memory are h = (are, tt)
+unbegun start request taken NoSuchCall are h = tt
+
+pub unanswered : (start : CoreView) (request : RequestValue) (calls : ℕ) (taken : List TakenReply) (begun : Result (Unit {0}) CoreFault) → AreFor start.routes request taken → length taken ≡ calls → IfErr begun (WasRefused start request calls) → IfErr begun (IsUnanswered start request taken)
+unanswered start request calls taken (Ok done) are all h = tt
+unanswered start request calls taken (Err fault) are all h = unbegun start request taken fault are (subst (λ n. WasRefused start request n fault) (sym all) h)
 
 -- ---- a reply is taken
 

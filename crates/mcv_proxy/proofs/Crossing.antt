@@ -2,6 +2,7 @@
 use denote.RattleType.{RattleType}
 use denote.Param.Send.{IsSend, IsSync, sendable}
 use Rattle.std.specs.declared.sync.ledger.Ledger.{Ghosts}
+use Rattle.mcv_hub.specs.declared.ledger.HubLedger as hubs
 use Rattle.std.proofs.Crossing.{Arc-send, Vec-send, crosses}
 use Rattle.std.proofs.MapsCrossing as maps
 use Rattle.std.proofs.sync.ledger.Book.TheSendSync as book
@@ -105,15 +106,15 @@ dispatcher_send = search (accepted_send, accepted_sync, calls_send, queues.the_f
 core_send : IsSend (Core.the_field Fnv.the_row).row
 core_send = search (dispatcher_send, fnv.the_send, sendable, crosses, maps.crosses) depth 24
 
-module _ (B T : RattleType) (b : Ghosts B.Denot) (t : Ghosts T.Denot) where
-  state_send : IsSend (HubState.the_row B T b t)
+module _ (B T : RattleType) (h : hubs.Ghosts B.Denot) (b : Ghosts B.Denot) (t : Ghosts T.Denot) where
+  state_send : IsSend (HubState.the_row B T h b t)
   state_send = search (core_send, entry.the_send, book.the_send, sendable, crosses, maps.crosses) depth 24
 
-  hub_send : IsSend (Hub.the_field B T b t).row
-  hub_send = search (state_send, sendable, crosses, maps.crosses) depth 24
+  hub_send : IsSend (Hub.the_field B T h b t).row
+  hub_send = search (state_send, accepted_send, accepted_sync, sendable, crosses, maps.crosses) depth 24
 
-  hub_sync : IsSync (Hub.the_field B T b t).row
-  hub_sync = search (state_send, sendable, crosses, maps.crosses) depth 24
+  hub_sync : IsSync (Hub.the_field B T h b t).row
+  hub_sync = search (state_send, accepted_send, accepted_sync, sendable, crosses, maps.crosses) depth 24
 
 ends_send : IsSend Ends.the_field.row
 ends_send = search (flag.the_field_send, sendable, crosses) depth 24
@@ -144,19 +145,19 @@ module _ (I O W : RattleType) where
   pub visitor_send : IsSend I → IsSend O → IsSend W → IsSend (Visitor.the_row I O W)
   visitor_send i o w = search (visitor.the_send, sendable, crosses) depth 24
 
-module _ (B T D : RattleType) (b : Ghosts B.Denot) (t : Ghosts T.Denot) (d : disk.Ghosts D.Denot) where
-  shared_send : IsSend D → IsSend (Shared.the_row B T D d b t)
+module _ (B T D : RattleType) (h : hubs.Ghosts B.Denot) (b : Ghosts B.Denot) (t : Ghosts T.Denot) (d : disk.Ghosts D.Denot) where
+  shared_send : IsSend D → IsSend (Shared.the_row B T D h d b t)
   shared_send s = search (accepted_send, accepted_sync, hub_send, lanes_send, spool.the_send, ends_send, sender.the_send, sendable, crosses) depth 24
 
-  shared_sync : IsSend D → IsSync (Shared.the_row B T D d b t)
+  shared_sync : IsSend D → IsSync (Shared.the_row B T D h d b t)
   shared_sync s = search (accepted_send, accepted_sync, hub_sync, lanes_sync, spool.the_send, ends_sync, sender.the_sync, sendable, crosses) depth 24
 
-  pub shared_shared : IsSend D → IsSend (Arc.the_row (Shared.the_row B T D d b t) Heap.the_row ghosts)
-  shared_shared s = Arc-send (Shared.the_row B T D d b t) (shared_send s) (shared_sync s)
+  pub shared_shared : IsSend D → IsSend (Arc.the_row (Shared.the_row B T D h d b t) Heap.the_row ghosts)
+  shared_shared s = Arc-send (Shared.the_row B T D h d b t) (shared_send s) (shared_sync s)
 
-module _ (B T D L Begun : RattleType) (b : Ghosts B.Denot) (t : Ghosts T.Denot) (d : disk.Ghosts D.Denot) where
-  pub context_send : IsSend D → IsSend L → IsSend (Context.the_row B T D L Begun d b t)
-  context_send s l = search (accepted_send, accepted_sync, shared_shared, links.the_send, links.the_sync, sendable, crosses) depth 24
+module _ (B T D L Begun : RattleType) (h : hubs.Ghosts B.Denot) (b : Ghosts B.Denot) (t : Ghosts T.Denot) (d : disk.Ghosts D.Denot) where
+  pub context_send : IsSend D → IsSend L → IsSend (Context.the_row B T D L Begun h d b t)
+  context_send s l = search (shared_shared, links.the_send, links.the_sync, sendable, crosses) depth 24
 
 module _ (D : RattleType) (d : disk.Ghosts D.Denot) where
   stock_send : IsSend D → IsSend (Stock.the_field D d).row

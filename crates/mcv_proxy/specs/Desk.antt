@@ -6,24 +6,28 @@ use Rattle.mcv_base.specs.Reply.{ReplyValue, part_value}
 use Rattle.mcv_base.specs.declared.key.KeyFault.{KeyFault}
 use Rattle.mcv_base.specs.declared.operation.Op.{Op}
 use Rattle.mcv_base.specs.declared.request.CallId.{CallId}
+use Rattle.mcv_base.specs.declared.request.Request.{Request}
+use Rattle.mcv_core.specs.Asking as asking
+use Rattle.mcv_core.specs.CoreView.{CoreView}
 use Rattle.mcv_core.specs.View.{core_view}
 use Rattle.mcv_core.specs.declared.fault.CoreFault.{CoreFault}
 use Rattle.mcv_core.specs.declared.fault.CoreFault.TheVariants.{UnknownPrefix, BadKey, LegsFull, ChapterFull, NothingWaiting, NoSuchLeg, Busy, ClockBack, Memory, NoSuchCall}
-use Rattle.mcv_hub.specs.State.{HistoryKeepsDeletes, HubView, IsCallOf, Replies}
+use Rattle.mcv_hub.specs.State.{HistoryKeepsDeletes, HubView, IsCallOf, IsOf, Replies}
 use Rattle.mcv_hub.specs.declared.receipts.Receipt.{Receipt}
 use Rattle.mcv_hub.specs.declared.seat.TakenReply.{TakenReply}
+use Rattle.mcv_pools.specs.Hash.{fnv_index}
 use Rattle.mcv_route.specs.Places.{route_of_prefix}
 use Rattle.mcv_route.specs.Routes.{RoutesValue}
 use Rattle.mcv_session.specs.Desk.{keys_of}
 use Rattle.mcv_session.specs.declared.desk.DeskFault.{DeskFault}
 use Rattle.mcv_session.specs.declared.desk.DeskFault.TheVariants as answers
-use Rattle.mcv_text.specs.Request.{RequestValue, asking, version, quit}
+use Rattle.mcv_text.specs.Request.{RequestValue, asking as asks, version, quit, request_value}
 
 -- ---- keys
 
 -- the operation of a request, and its key word of this number, from 0
 abbrev pub word_at : RequestValue → ℕ → Option (Op × List ℕ)
-word_at (asking ask) key = option_map (λ word. (ask.op, word)) (slice_get ask.keys key)
+word_at (asks ask) key = option_map (λ word. (ask.op, word)) (slice_get ask.keys key)
 word_at version key = None
 word_at quit key = None
 
@@ -60,13 +64,28 @@ IsUnrouted r word ClockBack = ⊥
 IsUnrouted r word Memory = ⊥
 IsUnrouted r word NoSuchCall = ⊥
 
+-- ---- calls
+
+-- it was seen under the lock of the hub that was opened so: deletes are kept in it
+pub record WasSeen (opened : CoreView) (state : HubView) : Type 0 where
+  pub hub : IsOf opened state
+  pub keeps : HistoryKeepsDeletes (core_view state.core) state.history
+
+-- a call for the key of this number was refused for this cause
+pub record WasRefused (opened : CoreView) (request : RequestValue) (key : ℕ) (fault : CoreFault) : Type 0 where
+  pub state : HubView
+  pub seen : WasSeen opened state
+  pub asked : Request
+  pub its : request_value asked ≡ request
+  pub cause : asking.IsUnbegun (core_view state.core) fnv_index asked key fault
+
 -- ---- replies
 
 -- the reply was taken of the hub: in a state of it the call of the receipt ran, asked this, and had this reply, and the receipt
--- names the entry that was written then. The history up to there is legal, and deletes are kept in the world that it leads to
-pub record WasTaken (t : TakenReply) : Type 0 where
+-- names the entry that was written then
+pub record WasTaken (opened : CoreView) (t : TakenReply) : Type 0 where
   pub state : HubView
-  pub keeps : HistoryKeepsDeletes (core_view state.core) state.history
+  pub seen : WasSeen opened state
   pub asked : IsCallOf state t.receipt.call.0 t.asked.op t.asked.route t.asked.rest
   pub reply : Replies state t.receipt.call.0 (part_value t.reply)
   pub chapter : t.receipt.chapter ≡ state.chapter
@@ -74,10 +93,10 @@ pub record WasTaken (t : TakenReply) : Type 0 where
 
 -- the replies to the first calls, this many of which are done with, were taken, in their order; where one of them won't come it is
 -- missed, and they are fewer
-pub record AreTaken (calls : List CallId) (done : ℕ) (missed : Option CoreFault) (taken : List TakenReply) : Type 0 where
+pub record AreTaken (opened : CoreView) (calls : List CallId) (done : ℕ) (missed : Option CoreFault) (taken : List TakenReply) : Type 0 where
   pub within : done ≤ length calls
   pub most : length taken ≤ done
-  pub each : All WasTaken taken
+  pub each : All (WasTaken opened) taken
   pub all : missed ≡ None → map (λ t. t.receipt.call) taken ≡ take done calls
   pub stranger : IfSome missed (λ fault. fault ≡ NoSuchCall)
 
@@ -99,43 +118,15 @@ pub record IsAnsweredBy (r : RoutesValue) (request : RequestValue) (taken : List
   pub one_each : length taken ≡ length (keys_of request)
   pub replies_are : replies ≡ map (λ t. part_value t.reply) taken
 
--- the word of this number is no key, or no route has its prefix
-pub record IsRefusedAt (r : RoutesValue) (request : RequestValue) (key : ℕ) (fault : CoreFault) : Type 0 where
-  pub op : Op
-  pub word : List ℕ
-  pub there : word_at request key ≡ Some (op, word)
-  pub unrouted : IsUnrouted r word fault
-
--- the hub refuses to begin a call for these reasons alone
-abbrev pub IsRefusal : CoreFault → Type 0
-IsRefusal UnknownPrefix = ⊤
-IsRefusal BadKey = ⊤
-IsRefusal LegsFull = ⊤
-IsRefusal ChapterFull = ⊤
-IsRefusal NothingWaiting = ⊥
-IsRefusal NoSuchLeg = ⊥
-IsRefusal Busy = ⊥
-IsRefusal ClockBack = ⊥
-IsRefusal Memory = ⊤
-IsRefusal NoSuchCall = ⊥
-
--- why no call is begun for the key of this number. The hub may be full, and memory may run out, at any time
-abbrev pub IsUnbegun : RoutesValue → RequestValue → ℕ → CoreFault → Type 0
-IsUnbegun r request key UnknownPrefix = IsRefusedAt r request key UnknownPrefix
-IsUnbegun r request key BadKey = IsRefusedAt r request key BadKey
-IsUnbegun r request key LegsFull = ⊤
-IsUnbegun r request key ChapterFull = ⊤
-IsUnbegun r request key NothingWaiting = ⊥
-IsUnbegun r request key NoSuchLeg = ⊥
-IsUnbegun r request key Busy = ⊥
-IsUnbegun r request key ClockBack = ⊥
-IsUnbegun r request key Memory = ⊤
-IsUnbegun r request key NoSuchCall = ⊤
+-- why no call is begun for the key of this number. Memory may run out at any time
+abbrev pub IsUnbegun : CoreView → RequestValue → ℕ → CoreFault → Type 0
+IsUnbegun opened request key Memory = ⊤
+IsUnbegun opened request key fault = WasRefused opened request key fault
 
 -- why the request isn't answered: no call is begun for the first key behind those of the replies, or a call or a reply is a stranger
-abbrev pub IsUnanswered : RoutesValue → RequestValue → List TakenReply → CoreFault → Type 0
-IsUnanswered r request taken NoSuchCall = ⊤
-IsUnanswered r request taken fault = AreFor r request taken × IsUnbegun r request (length taken) fault
+abbrev pub IsUnanswered : CoreView → RequestValue → List TakenReply → CoreFault → Type 0
+IsUnanswered opened request taken NoSuchCall = ⊤
+IsUnanswered opened request taken fault = AreFor opened.routes request taken × IsUnbegun opened request (length taken) fault
 
 -- what a client is answered for a fault of the core
 abbrev pub desk_fault : CoreFault → DeskFault
@@ -150,10 +141,10 @@ desk_fault ClockBack = answers.Busy
 desk_fault Memory = answers.Memory
 desk_fault NoSuchCall = answers.Busy
 
-pub record IsFaultOf (r : RoutesValue) (request : RequestValue) (taken : List TakenReply) (fault : DeskFault) : Type 0 where
+pub record IsFaultOf (opened : CoreView) (request : RequestValue) (taken : List TakenReply) (fault : DeskFault) : Type 0 where
   pub cause : CoreFault
   pub is : fault ≡ desk_fault cause
-  pub why : IsUnanswered r request taken cause
+  pub why : IsUnanswered opened request taken cause
 
 -- the receipts that are kept once a reply was taken: those of earlier chapters go, and its own is the last
 abbrev pub with_receipt : List Receipt → TakenReply → List Receipt
@@ -165,15 +156,15 @@ pub record DeskView : Type 0 where
   pub begun : ℕ
   pub taken : ℕ
 
--- what the desk does at a request: it begins calls, takes replies of the hub and keeps their receipts, and answers by these
--- replies, or why not
-pub record Asks (r : RoutesValue) (before : DeskView) (request : RequestValue) (answer : Result (List ReplyValue) DeskFault) (after : DeskView) : Type 0 where
+-- what the desk of the hub that was opened so does at a request: it begins calls, takes replies of the hub and keeps their
+-- receipts, and answers by these replies, or why not
+pub record Asks (opened : CoreView) (before : DeskView) (request : RequestValue) (answer : Result (List ReplyValue) DeskFault) (after : DeskView) : Type 0 where
   pub calls : ℕ
   pub taken : List TakenReply
-  pub each : All WasTaken taken
+  pub each : All (WasTaken opened) taken
   pub kept : after.receipts ≡ fold with_receipt before.receipts taken
   pub begun : after.begun ≡ before.begun + calls
   pub counted : after.taken ≡ before.taken + length taken
   pub most : length taken ≤ calls
-  pub answered : IfOk answer (λ replies. IsAnsweredBy r request taken replies × (calls ≡ length taken))
-  pub refused : IfErr answer (IsFaultOf r request taken)
+  pub answered : IfOk answer (λ replies. IsAnsweredBy opened.routes request taken replies × (calls ≡ length taken))
+  pub refused : IfErr answer (IsFaultOf opened request taken)

@@ -1,13 +1,18 @@
 -- What events do to the borrowed state beyond the hub's own (own).
-use Rattle.std.specs.Prelude.{◌≡◌, Result, OnOk, OnErr}
+use Rattle.std.specs.Prelude.{◌≡◌, ◌≢◌, ◌⊎◌, ℕ, Bool, false, true, Result, Err, OnOk, OnErr}
+use Rattle.mcv_base.specs.declared.request.CallId.{CallId}
 use Rattle.mcv_base.specs.declared.request.LegId.{LegId}
 use Rattle.mcv_base.specs.declared.request.ServerId.{ServerId}
-use Rattle.mcv_core.specs.Events.{IsLostLeg, IsMarked}
+use Rattle.mcv_base.specs.declared.request.Request.{Request}
+use Rattle.mcv_pools.specs.Hash.{fnv_index}
+use Rattle.mcv_core.specs.Events.{IsBegun, IsLostLeg, IsMarked}
 use Rattle.mcv_core.specs.View.{core_view}
 use Rattle.mcv_core.specs.declared.fault.CoreFault.{CoreFault}
+use Rattle.mcv_core.specs.declared.fault.CoreFault.TheVariants.{ChapterFull}
 use Rattle.mcv_core.specs.declared.step.Step.{Step}
-use Rattle.mcv_hub.specs.Events.{IsHubEvent}
+use Rattle.mcv_hub.specs.Events.{BeginsChapter, IsBusyChapter, IsHubEvent}
 use Rattle.mcv_hub.specs.State.{HubView}
+use Rattle.mcv_proxy.specs.declared.events.Attempt.{Attempt}
 
 -- the leg was lost, and then the server marked where three or more failures came in a row; where the loss is refused
 -- nothing has changed
@@ -17,3 +22,36 @@ pub record IsLoss (server : ServerId) (leg : LegId) (old new : HubView) (result 
   pub event : IsHubEvent (IsLostLeg (core_view old.core) leg result) old mid
   pub marked : OnOk result (IsHubEvent (IsMarked (core_view mid.core) server) mid new)
   pub refused : OnErr result (new ≡ mid)
+
+-- ---- a call begins, in the next chapter where this one has no place for it
+
+-- the call is begun, or refused, under the lock
+abbrev pub Begins : HubView → Request → ℕ → Result CallId CoreFault → HubView → Type 0
+Begins old request key begun new = IsHubEvent (IsBegun (core_view old.core) fnv_index request key begun) old new
+
+-- the chapter has a place for it, or it is refused for something else
+abbrev pub BeginsHere : HubView → Request → ℕ → Result CallId CoreFault → HubView → Type 0
+BeginsHere old request key begun new = Begins old request key begun new × (begun ≢ Err ChapterFull)
+
+-- this chapter has no place for it; another one begins, and in that the call is begun once more
+pub record BeginsInNext (old : HubView) (request : Request) (key : ℕ) (begun : Result CallId CoreFault) (new : HubView) : Type 0 where
+  pub full : HubView
+  pub turned : HubView
+  pub refused : Begins old request key (Err ChapterFull) full
+  pub turns : BeginsChapter full turned
+  pub begins : Begins turned request key begun new
+
+-- this chapter has no place for it, and can't end yet
+pub record FindsNoPlace (old : HubView) (request : Request) (key : ℕ) (begun : Result CallId CoreFault) (new : HubView) : Type 0 where
+  pub full : HubView
+  pub fault : CoreFault
+  pub refused : Begins old request key (Err ChapterFull) full
+  pub stays : IsBusyChapter full new fault
+  pub answer : begun ≡ Err ChapterFull
+
+abbrev pub IsTried : HubView → Request → ℕ → (may_wait : Bool) → Result CallId CoreFault → HubView → Type 0
+IsTried old request key false begun new = BeginsHere old request key begun new ⊎ BeginsInNext old request key begun new
+IsTried old request key true begun new = FindsNoPlace old request key begun new
+
+abbrev pub IsAttempt : HubView → Request → ℕ → Attempt → HubView → Type 0
+IsAttempt old request key attempt new = IsTried old request key attempt.may_wait attempt.begun new

@@ -2,7 +2,7 @@
 
 use mcv_base::{CallId, LegId, Mark, ServerId};
 use mcv_core::{Dispatcher, LegState, LegView};
-use mcv_hub::{Bell, Hub};
+use mcv_hub::{Bell, Hub, HubLedger};
 use std::alloc::Global;
 use std::sync::ledger::Ledger;
 
@@ -16,7 +16,7 @@ pub(crate) struct Due {
 /// What events leave to be done: bells to be rung once the lock is let go, so that who wakes doesn't find it locked, and
 /// legs that a session has to send for its calls.
 #[derive(Drop)]
-pub(crate) struct Agenda<'a, B: Ledger, T: Ledger> {
+pub(crate) struct Agenda<'a, B: HubLedger, T: Ledger> {
     hub: &'a Hub<B, T>,
     bells: Vec<Bell>,
     pub(crate) due: Vec<Due>,
@@ -36,13 +36,13 @@ pub(crate) fn waits(core: &Dispatcher, leg: LegId) -> bool {
 }
 
 /// A bell is to be rung. Where there is no memory to keep it in mind it is rung at once.
-fn keep_in_mind<B: Ledger, T: Ledger>(hub: &Hub<B, T>, bells: &mut Vec<Bell>, bell: Bell) {
+fn keep_in_mind<B: HubLedger, T: Ledger>(hub: &Hub<B, T>, bells: &mut Vec<Bell>, bell: Bell) {
     if bells.push(bell).is_err() {
         hub.ring(bell);
     }
 }
 
-impl<'a, B: Ledger, T: Ledger> Agenda<'a, B, T> {
+impl<'a, B: HubLedger, T: Ledger> Agenda<'a, B, T> {
     /// Nothing to be done. It takes no memory.
     pub(crate) fn new(alloc: Global, hub: &'a Hub<B, T>) -> Agenda<'a, B, T> {
         Agenda {

@@ -13,7 +13,7 @@ use crate::events::lost;
 use crate::seen::{Departure, Flight};
 use mcv_base::{CallId, LegId, LegRequest, ServerId};
 use mcv_core::{CoreFault, Dispatcher};
-use mcv_hub::Guard;
+use mcv_hub::{Guard, HubLedger};
 use std::alloc::Global;
 use std::sync::ledger::Ledger;
 
@@ -28,7 +28,7 @@ pub(crate) fn request_of(alloc: Global, core: &Dispatcher, leg: LegId) -> Option
 }
 
 /// The flight of a leg that came in flight; None where its server is marked, or there is no memory for its request.
-fn flight_of<B: Ledger, T: Ledger>(
+fn flight_of<B: HubLedger, T: Ledger>(
     alloc: Global,
     guard: &Guard<'_, B, T>,
     server: ServerId,
@@ -55,7 +55,7 @@ fn flight_of<B: Ledger, T: Ledger>(
 
 /// The first leg that waits for a server comes in flight: it is to be sent, or is lost at once, as that of a marked server
 /// is. An error is Busy, where a leg of the server is in flight, or NothingWaiting.
-pub(crate) fn take_next<B: Ledger, T: Ledger>(
+pub(crate) fn take_next<B: HubLedger, T: Ledger>(
     alloc: Global,
     agenda: &mut Agenda<'_, B, T>,
     guard: &mut Guard<'_, B, T>,

@@ -5,17 +5,17 @@ ghost use Rattle.std.specs.Arc.{arc_value};
 ghost use Rattle.std.specs.List.{All, filter};
 ghost use Rattle.mcv_text.specs.Request.{request_value};
 ghost use Rattle.mcv_session.specs.Desk.{keys_of};
-ghost use Rattle.mcv_proxy.specs.Desk.{AreFor, AreTaken, Asks, IsFor, IsRefusal, IsRouted, IsUnanswered, IsUnbegun, IsUnrouted, WasTaken, desk_fault, with_receipt, word_at};
+ghost use Rattle.mcv_proxy.specs.Desk.{AreFor, AreTaken, Asks, IsFor, IsRouted, IsUnanswered, IsUnrouted, WasRefused, WasTaken, desk_fault, with_receipt, word_at};
 
 use crate::agenda::Agenda;
 use crate::errands::Errands;
 use crate::events;
+use crate::events::Attempt;
 use crate::gates::{Link, Watch};
 use crate::lanes::{Lanes, Links};
 use mcv_base::{CallId, Op, Part, Request, Rest, key_words_have_one_reading, split_key};
-use mcv_check::Accepted;
 use mcv_core::CoreFault;
-use mcv_hub::{Bell, Guard, Hub, Pass, Receipt, Seat, TakenReply};
+use mcv_hub::{Bell, Guard, Hub, HubLedger, Pass, Receipt, Seat, TakenReply};
 use mcv_route::Routes;
 use mcv_session::{Desk, DeskFault};
 use std::alloc::{AllocError, Global};
@@ -32,7 +32,7 @@ const PAUSE: u64 = 10;
 
 /// What calls of a hub take: the ways to the servers, the pass and the seat of one session, its watch and its errands.
 #[derive(Drop)]
-struct Caller<'a, B: Ledger, T: Ledger, L: Link, W: Watch, R: Wait + Clock> {
+struct Caller<'a, B: HubLedger, T: Ledger, L: Link, W: Watch, R: Wait + Clock> {
     rt: &'a R,
     alloc: Global,
     hub: &'a Hub<B, T>,
@@ -54,8 +54,7 @@ struct Progress {
 
 /// Answers the requests of one session by calls of a hub, one for each key.
 #[derive(Drop)]
-pub struct HubDesk<'a, B: Ledger, T: Ledger, L: Link, W: Watch, R: Wait + Clock> {
-    accepted: Arc<Accepted>,
+pub struct HubDesk<'a, B: HubLedger, T: Ledger, L: Link, W: Watch, R: Wait + Clock> {
     caller: Caller<'a, B, T, L, W, R>,
     kept: Kept,
 }
@@ -191,25 +190,6 @@ fn are_for(routes: &Routes, request: &Request, taken: &[TakenReply]) -> bool
     true
 }
 
-/// Why the hub began no call for a key, as far as the routes say so: where one of them takes it, it is NoSuchCall.
-fn confirmed(routes: &Routes, request: &Request, key: usize, fault: CoreFault) -> CoreFault
-    requires { IsRefusal fault }
-    ensures { IsUnbegun routes.now (request_value request.now) key result }
-{
-    match fault {
-        CoreFault::UnknownPrefix | CoreFault::BadKey => {
-            let Some((_op, word)) = key_of(request, key) else {
-                return CoreFault::NoSuchCall;
-            };
-            match routed_key(routes, word) {
-                Ok(_) => CoreFault::NoSuchCall,
-                Err(fault) => fault,
-            }
-        }
-        other => other,
-    }
-}
-
 /// When a call began to wait for a place in the chapter.
 #[derive(Clone, Copy)]
 struct Patience {
@@ -236,7 +216,7 @@ impl Patience {
 /// Begins a call. Where the chapter has no place for it, a new chapter begins first, and the call is begun once more. The
 /// first key of a request waits for that a second at most, while calls run or legs are queued; for another one the
 /// request's own calls run, so it is refused.
-fn begin_in_chapter<'a, B: Ledger, T: Ledger, R: Wait + Clock>(
+fn begin_in_chapter<'a, B: HubLedger, T: Ledger, R: Wait + Clock>(
     rt: &R,
     alloc: Global,
     hub: &Hub<B, T>,
@@ -246,45 +226,33 @@ fn begin_in_chapter<'a, B: Ledger, T: Ledger, R: Wait + Clock>(
     request: &Arc<Request>,
     key: usize,
 ) -> (Guard<'a, B, T>, Result<CallId, CoreFault>)
-    ensures err { IfErr result.1 IsRefusal }
+    ensures err { IfErr result.1 (WasRefused B.opened (request_value (arc_value request.now)) key) }
     ensures begun { OnOk result.1 (seat.new.begun.amount ≡ seat.old.begun.amount + 1) }
     ensures unbegun { OnErr result.1 (seat.new.begun.amount ≡ seat.old.begun.amount) }
     ensures taken { seat.new.taken.amount ≡ seat.old.taken.amount }
 {
     let mut guard = guard;
     let mut patience = Patience { since: None };
-    let mut has_turned = false;
     for _attempt in rt.forever() {
-        let Ok(request) = Arc::try_clone(request) else {
-            return (guard, Err(CoreFault::Memory));
-        };
-        match events::begin(alloc, agenda, &mut guard, seat, request, key) {
-            Err(CoreFault::ChapterFull) => {}
-            answer => return (guard, answer),
+        let Attempt { begun, may_wait } = events::begin_in_turn(
+            alloc, agenda, &mut guard, seat, request, key,
+        );
+        if !may_wait || key > 0 || patience.is_over(rt) {
+            return (guard, begun);
         }
-        if has_turned {
-            return (guard, Err(CoreFault::ChapterFull));
-        }
-        has_turned = guard.turn().is_ok();
-        if !has_turned {
-            if key > 0 || patience.is_over(rt) {
-                return (guard, Err(CoreFault::ChapterFull));
-            }
-            guard = hub.wait_for(rt, guard, Bell::Chapter, Duration::from_millis(PAUSE));
-        }
+        guard = hub.wait_for(rt, guard, Bell::Chapter, Duration::from_millis(PAUSE));
     }
     unreachable!()
 }
 
 /// Begins the calls for the keys of a request, in their order, up to the first that is refused.
-fn begin_each<'a, B: Ledger, T: Ledger, R: Wait + Clock>(
+fn begin_each<'a, B: HubLedger, T: Ledger, R: Wait + Clock>(
     rt: &R,
     alloc: Global,
     hub: &Hub<B, T>,
     guard: Guard<'a, B, T>,
     seat: &mut Seat<B, T>,
     agenda: &mut Agenda<'_, B, T>,
-    routes: &Routes,
     request: &Arc<Request>,
     count: usize,
     calls: &mut Vec<CallId>,
@@ -295,7 +263,7 @@ fn begin_each<'a, B: Ledger, T: Ledger, R: Wait + Clock>(
     ensures most { vec_len calls.new ≤ count }
     ensures begun { seat.new.begun.amount ≡ seat.old.begun.amount + vec_len calls.new }
     ensures taken { seat.new.taken.amount ≡ seat.old.taken.amount }
-    ensures err { IfErr result.1 (IsUnbegun routes.now (request_value (arc_value request.now)) (vec_len calls.new)) }
+    ensures err { IfErr result.1 (WasRefused B.opened (request_value (arc_value request.now)) (vec_len calls.new)) }
 {
     let mut guard = guard;
     for key in 0..count {
@@ -303,19 +271,19 @@ fn begin_each<'a, B: Ledger, T: Ledger, R: Wait + Clock>(
         guard = next;
         match begun {
             Ok(call) => calls.push_reserved(call),
-            Err(fault) => return (guard, Err(confirmed(routes, request, key, fault))),
+            Err(fault) => return (guard, Err(fault)),
         }
     }
     (guard, Ok(()))
 }
 
 /// Takes the reply to a call, if it is there.
-fn take_one<B: Ledger, T: Ledger>(
+fn take_one<B: HubLedger, T: Ledger>(
     guard: &mut Guard<'_, B, T>,
     seat: &mut Seat<B, T>,
     call: CallId,
 ) -> Result<Option<TakenReply>, CoreFault>
-    ensures taken { IfOk result (λ found. IfSome found WasTaken) }
+    ensures taken { IfOk result (λ found. IfSome found (WasTaken B.opened)) }
     ensures call { IfOk result (λ found. IfSome found (λ t. t.receipt.call ≡ call)) }
     ensures counted { IfOk result (λ found. IfSome found (λ t. seat.new.taken.amount ≡ seat.old.taken.amount + 1)) }
     ensures uncounted { IfOk result (λ found. IfNone found (seat.new.taken.amount ≡ seat.old.taken.amount)) }
@@ -323,22 +291,23 @@ fn take_one<B: Ledger, T: Ledger>(
     ensures begun { seat.new.begun.amount ≡ seat.old.begun.amount }
     ensures err { IfErr result (λ fault. fault ≡ CoreFault.NoSuchCall) }
 {
+    guard.is_opened();
     guard.deletes_are_kept();
     guard.take_reply(seat, call)
 }
 
 /// Takes the replies to calls that are there, in their order, up to the first that isn't. Where one won't come the others are
 /// taken too, and it is NoSuchCall.
-fn take_ready<B: Ledger, T: Ledger>(
+fn take_ready<B: HubLedger, T: Ledger>(
     guard: &mut Guard<'_, B, T>,
     seat: &mut Seat<B, T>,
     calls: &[CallId],
     progress: Progress,
     taken: &mut Vec<TakenReply>,
 ) -> Progress
-    requires so_far { AreTaken calls.now progress.done progress.missed taken.old.items }
+    requires so_far { AreTaken B.opened calls.now progress.done progress.missed taken.old.items }
     requires room { length calls.now ≤ vec_capacity taken.old }
-    ensures so_far { AreTaken calls.now result.done result.missed taken.new.items }
+    ensures so_far { AreTaken B.opened calls.now result.done result.missed taken.new.items }
     ensures on { progress.done ≤ result.done }
     ensures room { vec_capacity taken.new ≡ vec_capacity taken.old }
     ensures counted { seat.new.taken.amount + vec_len taken.old ≡ seat.old.taken.amount + vec_len taken.new }
@@ -359,7 +328,7 @@ fn take_ready<B: Ledger, T: Ledger>(
 }
 
 /// Goes on with calls under the lock until a leg is to be sent, or all replies were taken.
-fn go_on<B: Ledger, T: Ledger, L: Link, R: Wait>(
+fn go_on<B: HubLedger, T: Ledger, L: Link, R: Wait>(
     rt: &R,
     alloc: Global,
     hub: &Hub<B, T>,
@@ -371,9 +340,9 @@ fn go_on<B: Ledger, T: Ledger, L: Link, R: Wait>(
     progress: Progress,
     taken: &mut Vec<TakenReply>,
 ) -> Progress
-    requires so_far { AreTaken calls.now progress.done progress.missed taken.old.items }
+    requires so_far { AreTaken B.opened calls.now progress.done progress.missed taken.old.items }
     requires room { length calls.now ≤ vec_capacity taken.old }
-    ensures so_far { AreTaken calls.now result.done result.missed taken.new.items }
+    ensures so_far { AreTaken B.opened calls.now result.done result.missed taken.new.items }
     ensures on { progress.done ≤ result.done }
     ensures room { vec_capacity taken.new ≡ vec_capacity taken.old }
     ensures counted { seat.new.taken.amount + vec_len taken.old ≡ seat.old.taken.amount + vec_len taken.new }
@@ -479,7 +448,7 @@ fn into_parts(taken: Vec<TakenReply>, parts: Vec<Part>) -> Vec<Part>
     parts
 }
 
-impl<'a, B: Ledger, T: Ledger, L: Link, W: Watch, R: Wait + Clock> Caller<'a, B, T, L, W, R> {
+impl<'a, B: HubLedger, T: Ledger, L: Link, W: Watch, R: Wait + Clock> Caller<'a, B, T, L, W, R> {
     /// Its seat.
     fn into_seat(self) -> Seat<B, T>
         ensures { result ≡ self.entry.seat }
@@ -491,7 +460,6 @@ impl<'a, B: Ledger, T: Ledger, L: Link, W: Watch, R: Wait + Clock> Caller<'a, B,
     /// leg of theirs in flight where that can be done at once.
     fn begin_all(
         &mut self,
-        routes: &Routes,
         request: &Arc<Request>,
         count: usize,
         calls: &mut Vec<CallId>,
@@ -502,7 +470,7 @@ impl<'a, B: Ledger, T: Ledger, L: Link, W: Watch, R: Wait + Clock> Caller<'a, B,
         ensures most { vec_len calls.new ≤ count }
         ensures begun { self.new.seat.begun.amount ≡ self.old.seat.begun.amount + vec_len calls.new }
         ensures taken { self.new.seat.taken.amount ≡ self.old.seat.taken.amount }
-        ensures err { IfErr result (IsUnbegun routes.now (request_value (arc_value request.now)) (vec_len calls.new)) }
+        ensures err { IfErr result (WasRefused B.opened (request_value (arc_value request.now)) (vec_len calls.new)) }
     {
         let moment = self.watch.moment();
         let (rt, alloc, hub, lanes) = (self.rt, self.alloc, self.hub, self.lanes);
@@ -512,7 +480,7 @@ impl<'a, B: Ledger, T: Ledger, L: Link, W: Watch, R: Wait + Clock> Caller<'a, B,
         let seat = &mut self.seat;
         let agenda = &mut self.errands.agenda;
         let (mut guard, begun) = begin_each(
-            rt, alloc, hub, guard, seat, agenda, routes, request, count, calls,
+            rt, alloc, hub, guard, seat, agenda, request, count, calls,
         );
         self.errands
             .set_off(rt, alloc, lanes, &mut guard, calls.as_slice(), None);
@@ -526,9 +494,9 @@ impl<'a, B: Ledger, T: Ledger, L: Link, W: Watch, R: Wait + Clock> Caller<'a, B,
         progress: Progress,
         taken: &mut Vec<TakenReply>,
     ) -> Progress
-        requires so_far { AreTaken calls.now progress.done progress.missed taken.old.items }
+        requires so_far { AreTaken B.opened calls.now progress.done progress.missed taken.old.items }
         requires room { length calls.now ≤ vec_capacity taken.old }
-        ensures so_far { AreTaken calls.now result.done result.missed taken.new.items }
+        ensures so_far { AreTaken B.opened calls.now result.done result.missed taken.new.items }
         ensures on { progress.done ≤ result.done }
         ensures room { vec_capacity taken.new ≡ vec_capacity taken.old }
         ensures counted { self.new.seat.taken.amount + vec_len taken.old ≡ self.old.seat.taken.amount + vec_len taken.new }
@@ -549,7 +517,7 @@ impl<'a, B: Ledger, T: Ledger, L: Link, W: Watch, R: Wait + Clock> Caller<'a, B,
     fn take_all(&mut self, calls: &[CallId], taken: &mut Vec<TakenReply>) -> Result<(), CoreFault>
         requires empty { taken.old.items ≡ [] }
         requires room { length calls.now ≤ vec_capacity taken.old }
-        ensures each { All WasTaken taken.new.items }
+        ensures each { All (WasTaken B.opened) taken.new.items }
         ensures most { vec_len taken.new ≤ length calls.now }
         ensures room { vec_capacity taken.new ≡ vec_capacity taken.old }
         ensures calls { OnOk result (map (λ t. t.receipt.call) taken.new.items ≡ calls.now) }
@@ -577,13 +545,12 @@ impl<'a, B: Ledger, T: Ledger, L: Link, W: Watch, R: Wait + Clock> Caller<'a, B,
     }
 }
 
-impl<'a, B: Ledger, T: Ledger, L: Link, W: Watch, R: Wait + Clock> HubDesk<'a, B, T, L, W, R> {
-    /// A desk over a hub of these routes that has answered nothing. Once the hub's chapter has `turn_from` entries or more a
+impl<'a, B: HubLedger, T: Ledger, L: Link, W: Watch, R: Wait + Clock> HubDesk<'a, B, T, L, W, R> {
+    /// A desk over a hub that has answered nothing. Once the hub's chapter has `turn_from` entries or more a
     /// new one begins as soon as no call runs and no leg is queued.
     pub fn new(
         rt: &'a R,
         alloc: Global,
-        accepted: Arc<Accepted>,
         hub: &'a Hub<B, T>,
         lanes: &'a Lanes,
         links: &'a Links<L>,
@@ -592,11 +559,9 @@ impl<'a, B: Ledger, T: Ledger, L: Link, W: Watch, R: Wait + Clock> HubDesk<'a, B
         watch: W,
         turn_from: usize,
     ) -> HubDesk<'a, B, T, L, W, R>
-        ensures receipts { result.kept.receipts.items ≡ [] }
-        ensures routes { result.accepted ≡ accepted }
+        ensures { result.kept.receipts.items ≡ [] }
     {
         HubDesk {
-            accepted,
             caller: Caller {
                 rt,
                 alloc,
@@ -617,11 +582,7 @@ impl<'a, B: Ledger, T: Ledger, L: Link, W: Watch, R: Wait + Clock> HubDesk<'a, B
         ensures seat { result.0 ≡ self.entry.caller.seat }
         ensures receipts { result.1 ≡ self.entry.kept.receipts }
     {
-        let HubDesk {
-            accepted: _,
-            caller,
-            kept,
-        } = self;
+        let HubDesk { caller, kept } = self;
         (caller.into_seat(), kept.receipts)
     }
 
@@ -638,20 +599,20 @@ impl<'a, B: Ledger, T: Ledger, L: Link, W: Watch, R: Wait + Clock> HubDesk<'a, B
         requires no_replies { taken.old.items ≡ [] }
         requires replies { length (keys_of (request_value (arc_value request.now))) ≤ vec_capacity taken.old }
         requires receipts { vec_len self.old.kept.receipts + length (keys_of (request_value (arc_value request.now))) ≤ vec_capacity self.old.kept.receipts }
-        ensures routes { self.new.accepted ≡ self.old.accepted }
-        ensures each { All WasTaken taken.new.items }
+        ensures each { All (WasTaken B.opened) taken.new.items }
         ensures kept { self.new.kept.receipts.items ≡ fold with_receipt self.old.kept.receipts.items taken.new.items }
         ensures counted { self.new.caller.seat.taken.amount ≡ self.old.caller.seat.taken.amount + vec_len taken.new }
         ensures begun { self.new.caller.seat.begun.amount ≡ self.old.caller.seat.begun.amount + vec_len calls.new }
         ensures most { vec_len taken.new ≤ vec_len calls.new }
         ensures all_begun { OnOk result (vec_len calls.new ≡ length (keys_of (request_value (arc_value request.now)))) }
-        ensures for_keys { OnOk result (AreFor (arc_value self.old.accepted) (request_value (arc_value request.now)) taken.new.items) }
+        ensures for_keys { OnOk result (AreFor B.opened.routes (request_value (arc_value request.now)) taken.new.items) }
         ensures one_each { OnOk result (vec_len taken.new ≡ length (keys_of (request_value (arc_value request.now)))) }
-        ensures err { IfErr result (IsUnanswered (arc_value self.old.accepted) (request_value (arc_value request.now)) taken.new.items) }
+        ensures err { IfErr result (IsUnanswered B.opened (request_value (arc_value request.now)) taken.new.items) }
     {
         let count = key_count(request);
-        let routes = self.accepted.routes();
-        let begun = self.caller.begin_all(routes, request, count, calls);
+        let hub = self.caller.hub;
+        let routes = hub.routes();
+        let begun = self.caller.begin_all(request, count, calls);
         let outcome = self.caller.take_all(calls.as_slice(), taken);
         self.kept.keep_all(taken.as_slice());
         outcome?;
@@ -669,17 +630,15 @@ impl<'a, B: Ledger, T: Ledger, L: Link, W: Watch, R: Wait + Clock> HubDesk<'a, B
         ensures receipts { OnOk result (vec_len self.new.kept.receipts + count ≤ vec_capacity self.new.kept.receipts) }
         ensures kept { self.new.kept.receipts.items ≡ self.old.kept.receipts.items }
         ensures seat { (self.new.caller.seat.begun.amount ≡ self.old.caller.seat.begun.amount) × (self.new.caller.seat.taken.amount ≡ self.old.caller.seat.taken.amount) }
-        ensures routes { self.new.accepted ≡ self.old.accepted }
     {
         self.kept.reserve(count)?;
         Room::new(self.caller.alloc, count)
     }
 }
 
-impl<'a, B: Ledger, T: Ledger, L: Link, W: Watch, R: Wait + Clock> Desk
+impl<'a, B: HubLedger, T: Ledger, L: Link, W: Watch, R: Wait + Clock> Desk
     for HubDesk<'a, B, T, L, W, R> {
-    // Its routes stay.
-    ghost asks = { λ old request answer new. Asks (arc_value old.accepted) (record { receipts = old.kept.receipts.items; begun = old.caller.seat.begun.amount; taken = old.caller.seat.taken.amount }) request answer (record { receipts = new.kept.receipts.items; begun = new.caller.seat.begun.amount; taken = new.caller.seat.taken.amount }) × (new.accepted ≡ old.accepted) };
+    ghost asks = { λ old request answer new. Asks B.opened (record { receipts = old.kept.receipts.items; begun = old.caller.seat.begun.amount; taken = old.caller.seat.taken.amount }) request answer (record { receipts = new.kept.receipts.items; begun = new.caller.seat.begun.amount; taken = new.caller.seat.taken.amount }) };
 
     fn ask(&mut self, request: &Arc<Request>) -> Result<Vec<Part>, DeskFault> {
         let Ok(room) = self.room_for(key_count(request)) else {

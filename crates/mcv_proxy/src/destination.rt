@@ -11,7 +11,7 @@ use crate::lanes::Lanes;
 use crate::seen::{Departure, Flight, Landed};
 use mcv_base::{LegId, ServerId};
 use mcv_core::CoreFault;
-use mcv_hub::{Bell, Guard, Hub, LegReply, Pass};
+use mcv_hub::{Bell, Guard, Hub, HubLedger, LegReply, Pass};
 use std::alloc::Global;
 use std::marker::PhantomData;
 use std::sync::Wait;
@@ -33,7 +33,7 @@ enum Task {
 }
 
 /// A leg was lost without being sent: who is next at its server is rung. A server that was marked is to be probed then.
-fn after_loss<B: Ledger, T: Ledger, R: Wait>(
+fn after_loss<B: HubLedger, T: Ledger, R: Wait>(
     rt: &R,
     lanes: &Lanes,
     agenda: &mut Agenda<'_, B, T>,
@@ -55,7 +55,7 @@ fn after_loss<B: Ledger, T: Ledger, R: Wait>(
 
 /// Waits until a leg can be sent to the server, and sends it; or until none waits and the worker is to end. A probe that is
 /// asked for comes behind the legs that can be sent.
-fn next_task<B: Ledger, T: Ledger, R: Wait>(
+fn next_task<B: HubLedger, T: Ledger, R: Wait>(
     rt: &R,
     alloc: Global,
     lanes: &Lanes,
@@ -88,7 +88,7 @@ fn next_task<B: Ledger, T: Ledger, R: Wait>(
 }
 
 /// Reports what came of the leg that the worker sent, if there was one, and waits for its next task.
-fn turn<B: Ledger, T: Ledger, L: Link, R: Wait>(
+fn turn<B: HubLedger, T: Ledger, L: Link, R: Wait>(
     rt: &R,
     alloc: Global,
     lanes: &Lanes,
@@ -109,7 +109,7 @@ fn turn<B: Ledger, T: Ledger, L: Link, R: Wait>(
 }
 
 /// Reports what came of a leg in flight again, and rings who is next at its server.
-pub(crate) fn report_again<B: Ledger, T: Ledger, R: Wait>(
+pub(crate) fn report_again<B: HubLedger, T: Ledger, R: Wait>(
     rt: &R,
     lanes: &Lanes,
     agenda: &mut Agenda<'_, B, T>,
@@ -128,7 +128,7 @@ pub(crate) fn report_again<B: Ledger, T: Ledger, R: Wait>(
 }
 
 /// Sends a leg that is in flight. Whoever is to be woken is, while it is under way.
-fn send<B: Ledger, T: Ledger, L: Link>(
+fn send<B: HubLedger, T: Ledger, L: Link>(
     alloc: Global,
     agenda: &mut Agenda<'_, B, T>,
     pass: &Pass,
@@ -148,7 +148,7 @@ fn send<B: Ledger, T: Ledger, L: Link>(
 }
 
 /// Asks a marked server whether it answers, and takes its mark away where it does.
-pub(crate) fn probe<B: Ledger, T: Ledger, L: Link, R: Wait>(
+pub(crate) fn probe<B: HubLedger, T: Ledger, L: Link, R: Wait>(
     rt: &R,
     hub: &Hub<B, T>,
     pass: &mut Pass,
@@ -170,7 +170,7 @@ pub(crate) fn probe<B: Ledger, T: Ledger, L: Link, R: Wait>(
 
 /// Sends the legs that wait for a server, one at a time, until none waits and the worker is to end. The legs of a
 /// marked server are lost without being sent, and after each the server is probed once, as it is where a session lost one so.
-pub fn serve_destination<B: Ledger, T: Ledger, L: Link, R: Wait>(
+pub fn serve_destination<B: HubLedger, T: Ledger, L: Link, R: Wait>(
     rt: &R,
     alloc: Global,
     hub: &Hub<B, T>,

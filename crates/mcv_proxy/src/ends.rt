@@ -1,6 +1,6 @@
 //! How threads that go on without end are asked to end.
 
-use mcv_hub::{Hub, Pass};
+use mcv_hub::{Hub, HubLedger, Pass};
 use std::sync::Wait;
 use std::sync::atomic::{AtomicBool, Ordering};
 use std::sync::ledger::Ledger;
@@ -26,7 +26,7 @@ impl Ends {
 
     /// Asks them to end. A thread that looked before has waited at its bell when this returns, or does so no more: ring
     /// it then.
-    pub fn ask<B: Ledger, T: Ledger, R: Wait>(&self, rt: &R, hub: &Hub<B, T>, pass: &mut Pass) {
+    pub fn ask<B: HubLedger, T: Ledger, R: Wait>(&self, rt: &R, hub: &Hub<B, T>, pass: &mut Pass) {
         self.asked.store(true, Ordering::SeqCst);
         let _guard = hub.lock(rt, pass);
     }

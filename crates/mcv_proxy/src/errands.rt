@@ -10,7 +10,7 @@ use crate::landing::{land, lose};
 use crate::lanes::{Lanes, Links};
 use crate::seen::{Departure, Flight, Landed};
 use mcv_base::{CallId, ServerId};
-use mcv_hub::{Bell, Guard, Hub, Pass};
+use mcv_hub::{Bell, Guard, Hub, HubLedger, Pass};
 use std::alloc::Global;
 use std::marker::PhantomData;
 use std::sync::Wait;
@@ -30,7 +30,7 @@ enum Attention {
 /// What a session has to do for the legs of its calls. It sends one leg at a time, so that no server waits for another one's
 /// reply; what is due to other servers meanwhile is left to their workers.
 #[derive(Drop)]
-pub(crate) struct Errands<'a, B: Ledger, T: Ledger, L: Link> {
+pub(crate) struct Errands<'a, B: HubLedger, T: Ledger, L: Link> {
     pub(crate) agenda: Agenda<'a, B, T>,
     /// A leg in flight that the session is to send.
     flight: Option<Flight>,
@@ -74,7 +74,7 @@ fn send_over<L: Link, R: Wait>(
 
 /// A leg is still due. Where the session has one in flight to another server it leaves the lane to the worker; where it has
 /// none it waits in the lane, at the bell of this call, if there is one.
-fn await_turn<B: Ledger, T: Ledger, R: Wait>(
+fn await_turn<B: HubLedger, T: Ledger, R: Wait>(
     rt: &R,
     lanes: &Lanes,
     agenda: &mut Agenda<'_, B, T>,
@@ -95,7 +95,7 @@ fn await_turn<B: Ledger, T: Ledger, R: Wait>(
     }
 }
 
-impl<'a, B: Ledger, T: Ledger, L: Link> Errands<'a, B, T, L> {
+impl<'a, B: HubLedger, T: Ledger, L: Link> Errands<'a, B, T, L> {
     /// Nothing to be sent, and chapters that end from so many entries on. It takes no memory.
     pub(crate) fn new(alloc: Global, hub: &'a Hub<B, T>, turn_from: usize) -> Errands<'a, B, T, L> {
         Errands {

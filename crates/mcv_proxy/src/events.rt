@@ -1,20 +1,22 @@
 //! Events on the borrowed state, and whom they let go on.
 
-ghost use Rattle.std.specs.Prelude.{◌≡◌, ◌+◌, IfErr, OnErr, OnOk};
+ghost use Rattle.std.specs.Prelude.{◌≡◌, ◌↔◌, ◌+◌, true, Err, IfErr, OnErr, OnOk};
 ghost use Rattle.std.specs.Arc.{arc_value};
 ghost use Rattle.mcv_pools.specs.Hash.{fnv_index};
 ghost use Rattle.mcv_core.specs.Events.{IsAnsweredLeg, IsBegun, IsRefusedLeg, IsSpooledLeg};
 ghost use Rattle.mcv_core.specs.View.{core_view};
+ghost use Rattle.mcv_core.specs.declared.fault.CoreFault.TheVariants.{ChapterFull as FullChapter};
 ghost use Rattle.mcv_hub.specs.Events.{IsHubEvent};
-ghost use Rattle.mcv_proxy.specs.Desk.{IsRefusal};
-ghost use Rattle.mcv_proxy.specs.Events.{IsLoss};
+ghost use Rattle.mcv_text.specs.Request.{request_value};
+ghost use Rattle.mcv_proxy.specs.Desk.{WasRefused};
+ghost use Rattle.mcv_proxy.specs.Events.{IsAttempt, IsLoss};
 ghost use Rattle.mcv_proxy.specs.Steps.{IsLanding};
 
 use crate::agenda::Agenda;
 use crate::gates::LinkFault;
 use mcv_base::{CallId, LegId, Request, ServerId};
 use mcv_core::{CoreFault, Dispatcher, LegState, Step};
-use mcv_hub::{Bell, Guard, LegReply, Seat};
+use mcv_hub::{Bell, Guard, HubLedger, LegReply, Seat};
 use mcv_spool::Stored;
 use std::alloc::Global;
 use std::sync::Arc;
@@ -44,7 +46,7 @@ fn concerned_by(core: &Dispatcher, leg: LegId) -> Concerned {
 pub(crate) const MANY_ENTRIES: usize = 500_000;
 
 /// Begins a new chapter where this one has so many entries, and no call of it runs and no leg is queued.
-pub(crate) fn turn_where_full<B: Ledger, T: Ledger>(
+pub(crate) fn turn_where_full<B: HubLedger, T: Ledger>(
     agenda: &mut Agenda<'_, B, T>,
     guard: &mut Guard<'_, B, T>,
     most: usize,
@@ -57,7 +59,7 @@ pub(crate) fn turn_where_full<B: Ledger, T: Ledger>(
 /// Notes whom an event on a leg let go on: who is to send the legs that it launched, who waits for the reply to its call, once
 /// that is there, unless that is the thread itself, whose calls these are, and the spool's worker or the replayer, whose leg
 /// it now is. Who may send the server's next leg isn't among them.
-fn note_after<B: Ledger, T: Ledger>(
+fn note_after<B: HubLedger, T: Ledger>(
     agenda: &mut Agenda<'_, B, T>,
     core: &Dispatcher,
     own: &[CallId],
@@ -81,7 +83,7 @@ fn note_after<B: Ledger, T: Ledger>(
 }
 
 /// Notes who is to send the legs that a call launched when it began; the first of them would have this number.
-fn note_begun<B: Ledger, T: Ledger>(
+fn note_begun<B: HubLedger, T: Ledger>(
     agenda: &mut Agenda<'_, B, T>,
     core: &Dispatcher,
     first: u64,
@@ -93,7 +95,7 @@ fn note_begun<B: Ledger, T: Ledger>(
 }
 
 /// Begins a call for one key of the request.
-pub(crate) fn begin<B: Ledger, T: Ledger>(
+fn begin<B: HubLedger, T: Ledger>(
     alloc: Global,
     agenda: &mut Agenda<'_, B, T>,
     guard: &mut Guard<'_, B, T>,
@@ -105,16 +107,95 @@ pub(crate) fn begin<B: Ledger, T: Ledger>(
     ensures begun { OnOk result (seat.new.begun.amount ≡ seat.old.begun.amount + 1) }
     ensures unbegun { OnErr result (seat.new.begun.amount ≡ seat.old.begun.amount) }
     ensures taken { seat.new.taken.amount ≡ seat.old.taken.amount }
-    ensures refused { IfErr result IsRefusal }
+    ensures refused { IfErr result (WasRefused B.opened (request_value (arc_value request)) key) }
 {
+    guard.is_opened();
+    guard.deletes_are_kept();
     let first = guard.core().next_leg();
     let begun = guard.begin(alloc, seat, request, key);
     note_begun(agenda, guard.core(), first, &begun);
     begun
 }
 
+/// Begins a call for one key of a request that others share. Memory is one of the errors.
+fn begin_shared<B: HubLedger, T: Ledger>(
+    alloc: Global,
+    agenda: &mut Agenda<'_, B, T>,
+    guard: &mut Guard<'_, B, T>,
+    seat: &mut Seat<B, T>,
+    request: &Arc<Request>,
+    key: usize,
+) -> Result<CallId, CoreFault>
+    ensures event { IsHubEvent (IsBegun (core_view guard.old.core) fnv_index (arc_value request.now) key result) guard.old guard.new }
+    ensures begun { OnOk result (seat.new.begun.amount ≡ seat.old.begun.amount + 1) }
+    ensures unbegun { OnErr result (seat.new.begun.amount ≡ seat.old.begun.amount) }
+    ensures taken { seat.new.taken.amount ≡ seat.old.taken.amount }
+    ensures refused { IfErr result (WasRefused B.opened (request_value (arc_value request.now)) key) }
+{
+    guard.is_opened();
+    guard.deletes_are_kept();
+    match Arc::try_clone(request) {
+        Ok(shared) => begin(alloc, agenda, guard, seat, shared, key),
+        Err(_) => Err(CoreFault::Memory),
+    }
+}
+
+/// Whether the chapter had no place for the call.
+fn is_chapter_full(begun: &Result<CallId, CoreFault>) -> bool
+    ensures { (result ≡ true) ↔ (begun.now ≡ Err FullChapter) }
+{
+    match begun {
+        Ok(_) => false,
+        Err(fault) => *fault == CoreFault::ChapterFull,
+    }
+}
+
+/// What came of beginning a call.
+#[derive(Drop)]
+pub(crate) struct Attempt {
+    pub begun: Result<CallId, CoreFault>,
+    /// Whether the chapter has no place for the call, and can't end yet.
+    pub may_wait: bool,
+}
+
+/// Begins a call for one key of the request. Where the chapter has no place for it a new one begins, and in this the call
+/// is begun once more.
+pub(crate) fn begin_in_turn<B: HubLedger, T: Ledger>(
+    alloc: Global,
+    agenda: &mut Agenda<'_, B, T>,
+    guard: &mut Guard<'_, B, T>,
+    seat: &mut Seat<B, T>,
+    request: &Arc<Request>,
+    key: usize,
+) -> Attempt
+    ensures attempt { IsAttempt guard.old (arc_value request.now) key result guard.new }
+    ensures waits { result.may_wait ≡ true → seat.new.begun.amount ≡ seat.old.begun.amount }
+    ensures begun { OnOk result.begun (seat.new.begun.amount ≡ seat.old.begun.amount + 1) }
+    ensures unbegun { OnErr result.begun (seat.new.begun.amount ≡ seat.old.begun.amount) }
+    ensures taken { seat.new.taken.amount ≡ seat.old.taken.amount }
+    ensures refused { IfErr result.begun (WasRefused B.opened (request_value (arc_value request.now)) key) }
+{
+    let begun = begin_shared(alloc, agenda, guard, seat, request, key);
+    if !is_chapter_full(&begun) {
+        return Attempt {
+            begun,
+            may_wait: false,
+        };
+    }
+    match guard.turn() {
+        Ok(()) => Attempt {
+            begun: begin_shared(alloc, agenda, guard, seat, request, key),
+            may_wait: false,
+        },
+        Err(_) => Attempt {
+            begun,
+            may_wait: true,
+        },
+    }
+}
+
 /// A leg in flight was answered.
-pub(crate) fn answered<B: Ledger, T: Ledger>(
+pub(crate) fn answered<B: HubLedger, T: Ledger>(
     agenda: &mut Agenda<'_, B, T>,
     guard: &mut Guard<'_, B, T>,
     own: &[CallId],
@@ -132,7 +213,7 @@ pub(crate) fn answered<B: Ledger, T: Ledger>(
 }
 
 /// A leg in flight was lost, and its server is marked where it has failed too often.
-pub(crate) fn lost<B: Ledger, T: Ledger>(
+pub(crate) fn lost<B: HubLedger, T: Ledger>(
     agenda: &mut Agenda<'_, B, T>,
     guard: &mut Guard<'_, B, T>,
     own: &[CallId],
@@ -153,7 +234,7 @@ pub(crate) fn lost<B: Ledger, T: Ledger>(
 }
 
 /// A leg in flight came to this: it was answered, or it was lost.
-pub(crate) fn landed<B: Ledger, T: Ledger>(
+pub(crate) fn landed<B: HubLedger, T: Ledger>(
     agenda: &mut Agenda<'_, B, T>,
     guard: &mut Guard<'_, B, T>,
     own: &[CallId],
@@ -170,7 +251,7 @@ pub(crate) fn landed<B: Ledger, T: Ledger>(
 }
 
 /// A held leg is in the spool.
-pub(crate) fn spooled<B: Ledger, T: Ledger>(
+pub(crate) fn spooled<B: HubLedger, T: Ledger>(
     agenda: &mut Agenda<'_, B, T>,
     guard: &mut Guard<'_, B, T>,
     leg: LegId,
@@ -187,7 +268,7 @@ pub(crate) fn spooled<B: Ledger, T: Ledger>(
 }
 
 /// The spool refused a held leg.
-pub(crate) fn spool_refused<B: Ledger, T: Ledger>(
+pub(crate) fn spool_refused<B: HubLedger, T: Ledger>(
     agenda: &mut Agenda<'_, B, T>,
     guard: &mut Guard<'_, B, T>,
     leg: LegId,

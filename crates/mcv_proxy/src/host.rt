@@ -1,6 +1,8 @@
 //! The thread of one hub.
 
 ghost use Rattle.std.specs.Prelude.{◌≡◌, ◌+◌, IfOk};
+ghost use Rattle.std.specs.Arc.{arc_value};
+ghost use Rattle.mcv_core.specs.Opening.{opened_view};
 ghost use Rattle.mcv_proxy.specs.Reports.{IsHubReport, IsReportOf};
 
 use crate::ends::Ends;
@@ -13,7 +15,7 @@ use crate::threads::{Crew, Done, Shared, Tools, Visitor, admit, server_count, st
 use crossbeam_channel::{Receiver, Sender};
 use mcv_base::ServerId;
 use mcv_check::Accepted;
-use mcv_hub::{Bell, Hub, Pass, Passes, Receipt, Report, Seat};
+use mcv_hub::{Bell, Hub, HubLedger, Pass, Passes, Receipt, Report, Seat};
 use mcv_spool::{Disk, Spool, SpoolRecord};
 use std::alloc::{AllocError, Global};
 use std::io::{Read, Write};
@@ -68,7 +70,7 @@ pub(crate) struct HubParts<D: Disk, L: Drop, I: Read + Drop, O: Write + Drop, W:
 }
 
 /// What a hub's threads share, and what makes passes and seats.
-fn open<B: Ledger, T: Ledger, D: Disk>(
+fn open<B: HubLedger, T: Ledger, D: Disk>(
     alloc: Global,
     stock: Stock<D>,
     ended: Sender<usize>,
@@ -77,6 +79,7 @@ fn open<B: Ledger, T: Ledger, D: Disk>(
 ) -> Result<(Shared<B, T, D>, Passes<B, T>), ProxyFault>
     requires begun { (begun.name ≡ B.name) × (begun.parts ≡ B.parts) × (begun.parts ≡ SEATS + 1) }
     requires taken { (taken.name ≡ T.name) × (taken.parts ≡ T.parts) × (taken.parts ≡ SEATS + 1) }
+    requires opened { B.opened ≡ opened_view (arc_value stock.accepted) stock.records.items }
 {
     let Stock {
         accepted,
@@ -113,7 +116,7 @@ fn say_ready<R: Wait>(rt: &R, ready: Sender<()>) -> Result<(), AllocError> {
 
 /// Starts the session of a client. An error is that there is no memory or no thread for it.
 fn begin_session<
-    B: Ledger + Send + Sync + 'static,
+    B: HubLedger + Send + Sync + 'static,
     T: Ledger + Send + Sync + 'static,
     D: Disk + Send + 'static,
     L: Link + Send + 'static,
@@ -145,7 +148,7 @@ where
 /// Serves the clients that come, each in a thread, until no more do. Sessions that have ended are joined before the next
 /// client is served.
 fn accept<
-    B: Ledger + Send + Sync + 'static,
+    B: HubLedger + Send + Sync + 'static,
     T: Ledger + Send + Sync + 'static,
     D: Disk + Send + 'static,
     L: Link + Send + 'static,
@@ -180,7 +183,7 @@ where
 }
 
 /// Asks the servers' workers and the replayer to end, waits until they have, and then does so with the spool's worker.
-fn dismiss<B: Ledger, T: Ledger, D: Disk, R: Threads + Wait>(
+fn dismiss<B: HubLedger, T: Ledger, D: Disk, R: Threads + Wait>(
     rt: &R,
     shared: &Shared<B, T, D>,
     pass: &mut Pass,
@@ -205,7 +208,7 @@ fn dismiss<B: Ledger, T: Ledger, D: Disk, R: Threads + Wait>(
 /// Starts all workers, says so, and serves the clients that come: what their sessions handed back. Those workers that were
 /// started are in the crew.
 fn serve_all<
-    B: Ledger + Send + Sync + 'static,
+    B: HubLedger + Send + Sync + 'static,
     T: Ledger + Send + Sync + 'static,
     D: Disk + Send + 'static,
     L: Link + Send + 'static,
@@ -251,7 +254,7 @@ where
 
 /// Serves all clients: what their sessions handed back.
 fn run<
-    B: Ledger + Send + Sync + 'static,
+    B: HubLedger + Send + Sync + 'static,
     T: Ledger + Send + Sync + 'static,
     D: Disk + Send + 'static,
     L: Link + Send + 'static,
@@ -282,7 +285,7 @@ where
 }
 
 /// Closes the books once all sessions have ended.
-fn close<B: Ledger, T: Ledger, R: Wait>(
+fn close<B: HubLedger, T: Ledger, R: Wait>(
     rt: &R,
     alloc: Global,
     hub: &Hub<B, T>,
@@ -301,7 +304,7 @@ fn close<B: Ledger, T: Ledger, R: Wait>(
 
 /// Serves all clients, and closes the books.
 fn conduct<
-    B: Ledger + Send + Sync + 'static,
+    B: HubLedger + Send + Sync + 'static,
     T: Ledger + Send + Sync + 'static,
     D: Disk + Send + 'static,
     L: Link + Send + 'static,
@@ -342,7 +345,7 @@ where
 
 /// As `serve_hub`, with the ledgers of calls begun and of replies taken.
 fn started<
-    B: Ledger + Send + Sync + 'static,
+    B: HubLedger + Send + Sync + 'static,
     T: Ledger + Send + Sync + 'static,
     D: Disk + Send + 'static,
     L: Link + Send + 'static,
@@ -363,6 +366,7 @@ where
     L::Begun: Send + 'static,
     requires begun { (begun.name ≡ B.name) × (begun.parts ≡ B.parts) × (begun.parts ≡ SEATS + 1) }
     requires taken { (taken.name ≡ T.name) × (taken.parts ≡ T.parts) × (taken.parts ≡ SEATS + 1) }
+    requires opened { B.opened ≡ opened_view (arc_value stock.accepted) stock.records.items }
     ensures { IfOk result IsHubReport }
 {
     let (to, ended) = crossbeam_channel::unbounded(alloc)?;

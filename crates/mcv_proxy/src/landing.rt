@@ -10,7 +10,7 @@ use crate::gates::{Link, LinkFault};
 use crate::seen::{Landed, Performed};
 use mcv_base::{CallId, LegId, LegRequest, Reply, ServerId};
 use mcv_core::LegState;
-use mcv_hub::{Guard, LegReply, Pass};
+use mcv_hub::{Guard, HubLedger, LegReply, Pass};
 use std::alloc::Global;
 use std::sync::ledger::Ledger;
 
@@ -43,7 +43,7 @@ pub(crate) fn answer_of<L: Link>(
 }
 
 /// Reports what came of a leg in flight: whether its server is marked by that.
-fn report<B: Ledger, T: Ledger>(
+fn report<B: HubLedger, T: Ledger>(
     agenda: &mut Agenda<'_, B, T>,
     guard: &mut Guard<'_, B, T>,
     own: &[CallId],
@@ -60,7 +60,7 @@ fn report<B: Ledger, T: Ledger>(
 }
 
 /// Reports what its link answered to a leg in flight: whether the server is marked by that.
-pub(crate) fn land<B: Ledger, T: Ledger, L: Link>(
+pub(crate) fn land<B: HubLedger, T: Ledger, L: Link>(
     agenda: &mut Agenda<'_, B, T>,
     guard: &mut Guard<'_, B, T>,
     own: &[CallId],
@@ -78,7 +78,7 @@ pub(crate) fn land<B: Ledger, T: Ledger, L: Link>(
 }
 
 /// Reports a leg in flight that no link was asked as lost: whether its server is marked by that.
-pub(crate) fn lose<B: Ledger, T: Ledger>(
+pub(crate) fn lose<B: HubLedger, T: Ledger>(
     agenda: &mut Agenda<'_, B, T>,
     guard: &mut Guard<'_, B, T>,
     own: &[CallId],
@@ -98,7 +98,7 @@ pub(crate) struct Landing {
 }
 
 /// Reports that a leg in flight again was answered: its record, where its server has performed it.
-fn answer_again<B: Ledger, T: Ledger>(
+fn answer_again<B: HubLedger, T: Ledger>(
     agenda: &mut Agenda<'_, B, T>,
     guard: &mut Guard<'_, B, T>,
     leg: LegId,
@@ -123,7 +123,7 @@ fn answer_again<B: Ledger, T: Ledger>(
 }
 
 /// Reports what came of a leg in flight again: its record, where its server has performed it.
-fn report_again<B: Ledger, T: Ledger>(
+fn report_again<B: HubLedger, T: Ledger>(
     agenda: &mut Agenda<'_, B, T>,
     guard: &mut Guard<'_, B, T>,
     server: ServerId,
@@ -142,7 +142,7 @@ fn report_again<B: Ledger, T: Ledger>(
 }
 
 /// Reports what came of a leg in flight again.
-pub(crate) fn land_again<B: Ledger, T: Ledger>(
+pub(crate) fn land_again<B: HubLedger, T: Ledger>(
     agenda: &mut Agenda<'_, B, T>,
     guard: &mut Guard<'_, B, T>,
     server: ServerId,

@@ -8,7 +8,7 @@ use crate::gates::{Link, LinkFault};
 use crate::landing::answer_of;
 use mcv_base::{CallId, LegId, LegRequest, ServerId};
 use mcv_core::Dispatcher;
-use mcv_hub::{Bell, Guard, LegReply, Pass};
+use mcv_hub::{Bell, Guard, HubLedger, LegReply, Pass};
 use std::alloc::{AllocError, Global};
 use std::collections::VecDeque;
 use std::sync::ledger::Ledger;
@@ -172,7 +172,7 @@ impl Lanes {
     }
 
     /// No leg of the server is in flight any more: who is to look at it next is to be rung.
-    pub(crate) fn pass_on<B: Ledger, T: Ledger, R: Wait>(
+    pub(crate) fn pass_on<B: HubLedger, T: Ledger, R: Wait>(
         &self,
         rt: &R,
         agenda: &mut Agenda<'_, B, T>,

@@ -14,7 +14,7 @@ use crate::lanes::Lanes;
 use crate::seen::Performed;
 use mcv_base::{LegId, LegRequest, ServerId};
 use mcv_core::CoreFault;
-use mcv_hub::{Bell, Guard, Hub, LegReply, Pass};
+use mcv_hub::{Bell, Guard, Hub, HubLedger, LegReply, Pass};
 use mcv_spool::{Disk, Spool, SpoolFault};
 use std::alloc::Global;
 use std::sync::ledger::Ledger;
@@ -53,7 +53,7 @@ enum Sight {
 }
 
 /// Sends the first leg again that is in the spool for a server, from this one on.
-fn look<B: Ledger, T: Ledger>(guard: &mut Guard<'_, B, T>, from: u32, count: u32) -> Sight {
+fn look<B: HubLedger, T: Ledger>(guard: &mut Guard<'_, B, T>, from: u32, count: u32) -> Sight {
     let mut found = Sight::Empty;
     for number in from..count {
         match guard.replay(ServerId(number)) {
@@ -66,7 +66,7 @@ fn look<B: Ledger, T: Ledger>(guard: &mut Guard<'_, B, T>, from: u32, count: u32
 }
 
 /// What is known of a leg that is in flight again.
-fn repeat_of<B: Ledger, T: Ledger>(
+fn repeat_of<B: HubLedger, T: Ledger>(
     alloc: Global,
     guard: &Guard<'_, B, T>,
     server: ServerId,
@@ -88,7 +88,7 @@ fn repeat_of<B: Ledger, T: Ledger>(
 
 /// Looks for a leg in the spool from this server on. From the first server on it waits until there is one, if no server is
 /// busy.
-fn find<B: Ledger, T: Ledger, R: Wait>(
+fn find<B: HubLedger, T: Ledger, R: Wait>(
     rt: &R,
     alloc: Global,
     hub: &Hub<B, T>,
@@ -115,7 +115,7 @@ fn find<B: Ledger, T: Ledger, R: Wait>(
 }
 
 /// Asks the server of a leg that is in flight again: a marked one is probed first, and asked where it answers.
-fn ask<B: Ledger, T: Ledger, L: Link, R: Wait>(
+fn ask<B: HubLedger, T: Ledger, L: Link, R: Wait>(
     rt: &R,
     alloc: Global,
     hub: &Hub<B, T>,
@@ -150,7 +150,7 @@ fn mark_done<D: Disk>(spool: &mut Spool<D>, performed: Performed) -> Result<(), 
 }
 
 /// Sends a leg again; once it is performed, its record is done. Whether it was performed.
-fn repeat_leg<B: Ledger, T: Ledger, L: Link, D: Disk, R: Wait>(
+fn repeat_leg<B: HubLedger, T: Ledger, L: Link, D: Disk, R: Wait>(
     rt: &R,
     alloc: Global,
     lanes: &Lanes,
@@ -175,7 +175,7 @@ fn repeat_leg<B: Ledger, T: Ledger, L: Link, D: Disk, R: Wait>(
 
 /// Goes round the servers once, and sends the legs again that are in the spool: those of a server until one isn't
 /// performed. Whether the replayer goes on.
-fn go_round<B: Ledger, T: Ledger, L: Link, D: Disk, R: Wait>(
+fn go_round<B: HubLedger, T: Ledger, L: Link, D: Disk, R: Wait>(
     rt: &R,
     alloc: Global,
     lanes: &Lanes,
@@ -207,7 +207,7 @@ fn go_round<B: Ledger, T: Ledger, L: Link, D: Disk, R: Wait>(
 
 /// Goes round the servers and sends the legs again that are in the spool, until it is to end. After each round it waits for
 /// a second. A server that is marked is probed first. The record of a leg is done once its server has performed it.
-pub fn serve_replay<B: Ledger, T: Ledger, L: Link, D: Disk, W: Watch, R: Wait>(
+pub fn serve_replay<B: HubLedger, T: Ledger, L: Link, D: Disk, W: Watch, R: Wait>(
     rt: &R,
     alloc: Global,
     hub: &Hub<B, T>,

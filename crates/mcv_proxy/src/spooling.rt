@@ -18,7 +18,7 @@ use crate::gates::Watch;
 use crate::seen::HeldLeg;
 use mcv_base::{LegId, ServerText};
 use mcv_core::{Change, CoreFault, Step};
-use mcv_hub::{Bell, Guard, Hub, Pass};
+use mcv_hub::{Bell, Guard, Hub, HubLedger, Pass};
 use mcv_spool::{Disk, Spool, SpoolFault, SpoolRecord, Stored};
 use std::alloc::Global;
 use std::rt::Clock;
@@ -27,7 +27,7 @@ use std::sync::{Mutex, Wait};
 use std::time::{Duration, Instant};
 
 /// The record of a leg, where these are the texts of the servers.
-fn record_of<B: Ledger, T: Ledger>(
+fn record_of<B: HubLedger, T: Ledger>(
     texts: &[Option<ServerText>],
     guard: &Guard<'_, B, T>,
     leg: LegId,
@@ -43,7 +43,7 @@ fn record_of<B: Ledger, T: Ledger>(
 }
 
 /// The leg that the spool is to take next, with its record; None where there is none, and no leg where it has no record.
-fn held_leg<B: Ledger, T: Ledger>(
+fn held_leg<B: HubLedger, T: Ledger>(
     texts: &[Option<ServerText>],
     guard: &Guard<'_, B, T>,
 ) -> Option<Option<HeldLeg>>
@@ -100,7 +100,7 @@ fn is_first_refusal(refused: Result<Step, CoreFault>) -> bool
 
 /// Waits until the spool is to take a leg, and may be asked. Until it may, a leg of which its call has no outcome is refused at
 /// once; those come first. A worker that is to end asks it once more.
-fn next_task<B: Ledger, T: Ledger, R: Wait + Clock>(
+fn next_task<B: HubLedger, T: Ledger, R: Wait + Clock>(
     rt: &R,
     texts: &[Option<ServerText>],
     agenda: &mut Agenda<'_, B, T>,
@@ -150,7 +150,7 @@ fn mend<D: Disk>(spool: &mut Spool<D>, fault: SpoolFault) -> Option<Result<(), S
 }
 
 /// Reports what came of writing the record of a held leg: the leg is in the spool, or the spool refused it.
-fn settle<B: Ledger, T: Ledger>(
+fn settle<B: HubLedger, T: Ledger>(
     agenda: &mut Agenda<'_, B, T>,
     guard: &mut Guard<'_, B, T>,
     leg: LegId,
@@ -166,7 +166,7 @@ fn settle<B: Ledger, T: Ledger>(
 }
 
 /// Reports what came of writing the record of a held leg, and notes whom to ring. Why the record was refused, if it was.
-fn report<B: Ledger, T: Ledger, R: Wait>(
+fn report<B: HubLedger, T: Ledger, R: Wait>(
     rt: &R,
     agenda: &mut Agenda<'_, B, T>,
     pass: &mut Pass,
@@ -201,7 +201,7 @@ fn note<W: Watch>(watch: &mut W, refuses: &mut bool, refused: bool) {
 
 /// Writes the record of a held leg, and reports what came of it. Where the spool refused it, it is opened again if it has to
 /// be. Whether it refused.
-fn write_record<B: Ledger, T: Ledger, D: Disk, R: Wait>(
+fn write_record<B: HubLedger, T: Ledger, D: Disk, R: Wait>(
     rt: &R,
     agenda: &mut Agenda<'_, B, T>,
     pass: &mut Pass,
@@ -228,7 +228,7 @@ fn asked_again<W: Watch, R: Clock>(rt: &R, watch: &W) -> Option<Instant> {
 /// record is refused its leg is reported, the spool is opened again if it has to be, and for a second it isn't asked: legs
 /// that come meanwhile are refused at once. Then the first leg that is held comes next. A worker that is to end ends with the
 /// first record that is refused then.
-pub fn serve_spool<B: Ledger, T: Ledger, D: Disk, W: Watch, R: Wait + Clock>(
+pub fn serve_spool<B: HubLedger, T: Ledger, D: Disk, W: Watch, R: Wait + Clock>(
     rt: &R,
     alloc: Global,
     texts: &[Option<ServerText>],

@@ -10,7 +10,7 @@ use crate::spooling::serve_spool;
 use crossbeam_channel::Sender;
 use mcv_base::{ServerId, ServerText};
 use mcv_check::Accepted;
-use mcv_hub::{Hub, Pass, Passes, Receipt, Seat};
+use mcv_hub::{Hub, HubLedger, Pass, Passes, Receipt, Seat};
 use mcv_session::serve_session;
 use mcv_spool::{Disk, Spool};
 use std::alloc::{AllocError, Global};
@@ -32,7 +32,7 @@ pub(crate) struct Done<B: Ledger, T: Ledger> {
 
 /// What the threads of a hub share.
 #[derive(Drop)]
-pub(crate) struct Shared<B: Ledger, T: Ledger, D: Disk> {
+pub(crate) struct Shared<B: HubLedger, T: Ledger, D: Disk> {
     pub(crate) accepted: Arc<Accepted>,
     pub(crate) hub: Hub<B, T>,
     pub(crate) lanes: Lanes,
@@ -68,7 +68,7 @@ pub(crate) struct Tools<L: Drop, W: Drop> {
 }
 
 /// The work of a server's worker.
-fn work<B: Ledger, T: Ledger, D: Disk, L: Link, R: Wait>(
+fn work<B: HubLedger, T: Ledger, D: Disk, L: Link, R: Wait>(
     rt: &R,
     alloc: Global,
     shared: &Shared<B, T, D>,
@@ -87,7 +87,7 @@ fn work<B: Ledger, T: Ledger, D: Disk, L: Link, R: Wait>(
 
 /// Starts the worker of a server. None where there is no memory or no thread for it.
 fn employ<
-    B: Ledger + Send + Sync + 'static,
+    B: HubLedger + Send + Sync + 'static,
     T: Ledger + Send + Sync + 'static,
     D: Disk + Send + 'static,
     L: Link + Send + 'static,
@@ -111,7 +111,7 @@ where
 }
 
 /// The work of the spool's worker.
-fn write_down<B: Ledger, T: Ledger, D: Disk, W: Watch, R: Wait + Clock>(
+fn write_down<B: HubLedger, T: Ledger, D: Disk, W: Watch, R: Wait + Clock>(
     rt: &R,
     alloc: Global,
     shared: &Shared<B, T, D>,
@@ -132,7 +132,7 @@ fn write_down<B: Ledger, T: Ledger, D: Disk, W: Watch, R: Wait + Clock>(
 
 /// Starts the spool's worker. None where there is no memory or no thread for it.
 fn employ_spool<
-    B: Ledger + Send + Sync + 'static,
+    B: HubLedger + Send + Sync + 'static,
     T: Ledger + Send + Sync + 'static,
     D: Disk + Send + 'static,
     W: Watch + Send + 'static,
@@ -153,7 +153,7 @@ fn employ_spool<
 }
 
 /// The work of the replayer.
-fn send_again<B: Ledger, T: Ledger, D: Disk, L: Link, W: Watch, R: Wait>(
+fn send_again<B: HubLedger, T: Ledger, D: Disk, L: Link, W: Watch, R: Wait>(
     rt: &R,
     alloc: Global,
     shared: &Shared<B, T, D>,
@@ -177,7 +177,7 @@ fn send_again<B: Ledger, T: Ledger, D: Disk, L: Link, W: Watch, R: Wait>(
 
 /// Starts the replayer. None where there is no memory or no thread for it.
 fn employ_replayer<
-    B: Ledger + Send + Sync + 'static,
+    B: HubLedger + Send + Sync + 'static,
     T: Ledger + Send + Sync + 'static,
     D: Disk + Send + 'static,
     L: Link + Send + 'static,
@@ -203,15 +203,14 @@ where
 
 /// What the thread of a session has of others.
 #[derive(Drop)]
-struct SessionContext<B: Ledger, T: Ledger, D: Disk, L: Link> {
-    accepted: Arc<Accepted>,
+struct SessionContext<B: HubLedger, T: Ledger, D: Disk, L: Link> {
     shared: Arc<Shared<B, T, D>>,
     links: Arc<Links<L>>,
     /// The number of the session.
     number: usize,
 }
 
-impl<B: Ledger, T: Ledger, D: Disk, L: Link> SessionContext<B, T, D, L> {
+impl<B: HubLedger, T: Ledger, D: Disk, L: Link> SessionContext<B, T, D, L> {
     /// That of one more session, of this number.
     fn new(
         shared: &Arc<Shared<B, T, D>>,
@@ -219,7 +218,6 @@ impl<B: Ledger, T: Ledger, D: Disk, L: Link> SessionContext<B, T, D, L> {
         number: usize,
     ) -> Result<SessionContext<B, T, D, L>, AllocError> {
         Ok(SessionContext {
-            accepted: Arc::try_clone(&shared.accepted)?,
             shared: Arc::try_clone(shared)?,
             links: Arc::try_clone(links)?,
             number,
@@ -237,7 +235,7 @@ pub(crate) struct Visitor<I: Read + Drop, O: Write + Drop, W: Watch> {
 
 /// Serves a client until its session ends, and says then that it has.
 fn serve<
-    B: Ledger,
+    B: HubLedger,
     T: Ledger,
     D: Disk,
     L: Link,
@@ -254,7 +252,6 @@ fn serve<
     visitor: Visitor<I, O, W>,
 ) -> Done<B, T> {
     let SessionContext {
-        accepted,
         shared,
         links,
         number,
@@ -266,9 +263,7 @@ fn serve<
     } = visitor;
     let (hub, lanes) = (&shared.hub, &shared.lanes);
     let turn_from = shared.turn_from;
-    let mut desk = HubDesk::new(
-        rt, alloc, accepted, hub, lanes, &*links, pass, seat, watch, turn_from,
-    );
+    let mut desk = HubDesk::new(rt, alloc, hub, lanes, &*links, pass, seat, watch, turn_from);
     let _ = serve_session(alloc, &mut reader, &mut writer, &mut desk);
     let (seat, receipts) = desk.into_parts();
     // Without memory for that it is joined once no more clients come.
@@ -278,7 +273,7 @@ fn serve<
 
 /// Starts a session. Where there is no thread for it the client is dropped.
 fn host<
-    B: Ledger + Send + Sync + 'static,
+    B: HubLedger + Send + Sync + 'static,
     T: Ledger + Send + Sync + 'static,
     D: Disk + Send + 'static,
     L: Link + Send + 'static,
@@ -303,7 +298,7 @@ where
 
 /// Starts the session of this number on a hub. None where there is no memory or no thread for it.
 pub(crate) fn admit<
-    B: Ledger + Send + Sync + 'static,
+    B: HubLedger + Send + Sync + 'static,
     T: Ledger + Send + Sync + 'static,
     D: Disk + Send + 'static,
     L: Link + Send + 'static,
@@ -363,7 +358,7 @@ fn enlist(
 
 /// Starts the workers of all servers.
 fn employ_all<
-    B: Ledger + Send + Sync + 'static,
+    B: HubLedger + Send + Sync + 'static,
     T: Ledger + Send + Sync + 'static,
     D: Disk + Send + 'static,
     L: Link + Send + 'static,
@@ -392,7 +387,7 @@ where
 
 /// Starts the spool's worker. None where there is no memory or no thread for it.
 fn staff_spool<
-    B: Ledger + Send + Sync + 'static,
+    B: HubLedger + Send + Sync + 'static,
     T: Ledger + Send + Sync + 'static,
     D: Disk + Send + 'static,
     W: Watch + Send + 'static,
@@ -412,7 +407,7 @@ fn staff_spool<
 
 /// Starts all workers. Those that were started are in the crew also where one wasn't.
 pub(crate) fn staff<
-    B: Ledger + Send + Sync + 'static,
+    B: HubLedger + Send + Sync + 'static,
     T: Ledger + Send + Sync + 'static,
     D: Disk + Send + 'static,
     L: Link + Send + 'static,

@@ -1,3 +1,6 @@
+use Rattle.std.proofs.Common.{[]}
+use Rattle.std.specs.Arc.{arc_value}
+use Rattle.mcv_core.specs.Opening.{opened_view}
 use Rattle.mcv_core_tests.proofs.hub.two_seats_have_their_receipts.Given as goal
 
 -- the ledgers are those that the two blanks open
@@ -6,3 +9,6 @@ ghosts-two_seats-B-Ledger g a = record { name = a.begun.name; parts = a.begun.pa
 
 abbrev pub ghosts-two_seats-T-Ledger : goal.ghosts-two_seats-T-Ledger
 ghosts-two_seats-T-Ledger g a = record { name = a.taken.name; parts = a.taken.parts }
+
+abbrev pub ghosts-two_seats-B-HubLedger : goal.ghosts-two_seats-B-HubLedger
+ghosts-two_seats-B-HubLedger g a = record { opened = opened_view (arc_value a.accepted) [] }

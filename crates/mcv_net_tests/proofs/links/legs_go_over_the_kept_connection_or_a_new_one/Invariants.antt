@@ -1,3 +1,6 @@
+use Rattle.std.proofs.Common.{[]}
+use Rattle.std.specs.Arc.{arc_value}
+use Rattle.mcv_core.specs.Opening.{opened_view}
 use Rattle.mcv_net_tests.proofs.links.legs_go_over_the_kept_connection_or_a_new_one.Given as goal
 
 -- the ledgers are those that the two blanks open
@@ -6,3 +9,6 @@ ghosts-pass_of-B-Ledger g a = record { name = a.begun.name; parts = a.begun.part
 
 abbrev pub ghosts-pass_of-T-Ledger : goal.ghosts-pass_of-T-Ledger
 ghosts-pass_of-T-Ledger g a = record { name = a.taken.name; parts = a.taken.parts }
+
+abbrev pub ghosts-pass_of-B-HubLedger : goal.ghosts-pass_of-B-HubLedger
+ghosts-pass_of-B-HubLedger g a = record { opened = opened_view (arc_value a.accepted) [] }

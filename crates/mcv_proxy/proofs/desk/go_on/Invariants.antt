@@ -9,7 +9,7 @@ invariant-loop-turn g l = record {
   next : (goal.iterator-loop-turn g).can_next l._turn-iterator;
   finite : (goal.iterator-loop-turn g).is_finite l._turn-iterator;
   on : l.fn.progress.done ≤ l.progress.done;
-  so_far : AreTaken l.calls l.progress.done l.progress.missed l.taken.items;
+  so_far : AreTaken g.B.HubLedger.opened l.calls l.progress.done l.progress.missed l.taken.items;
   room : vec_capacity l.taken ≡ vec_capacity l.fn.taken;
   counted : l.seat.taken.amount + vec_len l.fn.taken ≡ l.fn.seat.taken.amount + vec_len l.taken;
   begun : l.seat.begun.amount ≡ l.fn.seat.begun.amount;

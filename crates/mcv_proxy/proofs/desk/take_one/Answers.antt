@@ -3,7 +3,7 @@ use Rattle.mcv_proxy.proofs.Taken.{found_call, found_was_taken}
 use Rattle.mcv_proxy.proofs.desk.take_one.Goals as goal
 
 pub returns-clause-taken : goal.returns-clause-taken
-returns-clause-taken g c = found_was_taken c.args.guard.now c.args.call c.take_reply.result c.deletes_are_kept.ensures c.take_reply.ensures.receipt
+returns-clause-taken g c = found_was_taken g.B.HubLedger.opened c.args.guard.now c.args.call c.take_reply.result c.is_opened.ensures c.deletes_are_kept.ensures c.take_reply.ensures.receipt
 
 pub returns-clause-call : goal.returns-clause-call
 returns-clause-call g c = found_call c.args.guard.now c.args.call c.take_reply.result c.take_reply.ensures.receipt

@@ -7,6 +7,7 @@ use Rattle.mcv_proxy.proofs.desk.take_ready.Goals.{in-Ok-Some, in-Err}
 
 pub loop-done-preserved : goal.loop-done-preserved
 loop-done-preserved g c =
+    let start = g.B.HubLedger.opened in
     let calls = c.args.calls.now in
     let n = c.loop-done.done in
     let before = c.loop-done.taken.items in
@@ -15,15 +16,15 @@ loop-done-preserved g c =
       | in-Ok-Some w ↦
           let items : after ≡ before ++ w.in-Ok-Some.reply ∷ [] = ap (λ v. v.items) w.taken-is ∙ w.push_reserved.ensures.items in
           record {
-            so_far = subst (λ m. AreTaken calls (n + 1) m after) (sym w.missed-is) (one_more_taken calls n c.loop-done.missed _ before after w.in-Ok-Some.reply c.loop-done-test.true (rw w.in-Ok-Some.field-0-is at w.in-Ok-Some.ensures.call) items (rw w.in-Ok-Some.field-0-is at w.in-Ok-Some.ensures.taken) c.loop-done.invariant.so_far);
+            so_far = subst (λ m. AreTaken start calls (n + 1) m after) (sym w.missed-is) (one_more_taken start calls n c.loop-done.missed _ before after w.in-Ok-Some.reply c.loop-done-test.true (rw w.in-Ok-Some.field-0-is at w.in-Ok-Some.ensures.call) items (rw w.in-Ok-Some.field-0-is at w.in-Ok-Some.ensures.taken) c.loop-done.invariant.so_far);
             room = search rules;
             counted = grind (arith, common_steps);
             begun = search rules;
           }
       | in-Err w ↦
-          let one = one_missed calls n c.loop-done.missed w.in-Err.fault before c.loop-done-test.true w.in-Err.ensures.err c.loop-done.invariant.so_far in
+          let one = one_missed start calls n c.loop-done.missed w.in-Err.fault before c.loop-done-test.true w.in-Err.ensures.err c.loop-done.invariant.so_far in
           record {
-            so_far = subst (λ m. AreTaken calls (n + 1) m after) (sym w.missed-is) (subst (λ v. AreTaken calls (n + 1) (Some w.in-Err.fault) v.items) (sym w.taken-is) one);
+            so_far = subst (λ m. AreTaken start calls (n + 1) m after) (sym w.missed-is) (subst (λ v. AreTaken start calls (n + 1) (Some w.in-Err.fault) v.items) (sym w.taken-is) one);
             room = search rules;
             counted = grind (arith, common_steps);
             begun = search rules;

@@ -6,7 +6,7 @@ use Rattle.mcv_proxy.proofs.desk.take_ready.Given as goal
 -- the reply to each call so far was taken, unless one won't come
 abbrev pub invariant-loop-done : goal.invariant-loop-done
 invariant-loop-done g l = record {
-  so_far : AreTaken l.calls l.done l.missed l.taken.items;
+  so_far : AreTaken g.B.HubLedger.opened l.calls l.done l.missed l.taken.items;
   room : vec_capacity l.taken ≡ vec_capacity l.fn.taken;
   counted : l.seat.taken.amount + vec_len l.fn.taken ≡ l.fn.seat.taken.amount + vec_len l.taken;
   begun : l.seat.begun.amount ≡ l.fn.seat.begun.amount;

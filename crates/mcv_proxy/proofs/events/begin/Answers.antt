@@ -1,6 +1,6 @@
 use Rattle.std.specs.Arc.{arc_value}
 use Rattle.mcv_pools.specs.Hash.{fnv_index}
-use Rattle.mcv_proxy.proofs.Books.{begun_counts, begun_takes, unbegun_counts, unbegun_refusal}
+use Rattle.mcv_proxy.proofs.Books.{begun_counts, begun_takes, unbegun_counts, was_refused}
 use Rattle.mcv_proxy.proofs.events.begin.Goals as goal
 
 pub returns-clause-begun : goal.returns-clause-begun
@@ -13,4 +13,4 @@ pub returns-clause-taken : goal.returns-clause-taken
 returns-clause-taken g c = begun_takes fnv_index (arc_value c.args.request) c.args.key c.args.guard.now c.begin-begun.new.self c.begin-begun.result c.args.seat.now.taken.amount c.begin-begun.new.seat.taken.amount c.begin-begun.ensures.event c.begin-begun.ensures.taken
 
 pub returns-clause-refused : goal.returns-clause-refused
-returns-clause-refused g c = unbegun_refusal fnv_index (arc_value c.args.request) c.args.key c.args.guard.now c.begin-begun.new.self c.begin-begun.result c.begin-begun.ensures.event
+returns-clause-refused g c = was_refused g.B.HubLedger.opened (arc_value c.args.request) c.args.key c.args.guard.now c.begin-begun.new.self c.begin-begun.result c.is_opened.ensures c.deletes_are_kept.ensures c.begin-begun.ensures.event

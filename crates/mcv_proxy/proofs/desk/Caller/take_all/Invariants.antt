@@ -8,7 +8,7 @@ abbrev pub invariant-loop-turn : goal.invariant-loop-turn
 invariant-loop-turn g l = record {
   next : (goal.iterator-loop-turn g).can_next l._turn-iterator;
   finite : (goal.iterator-loop-turn g).is_finite l._turn-iterator;
-  so_far : AreTaken l.calls l.progress.done l.progress.missed l.taken.items;
+  so_far : AreTaken g.B.HubLedger.opened l.calls l.progress.done l.progress.missed l.taken.items;
   room : vec_capacity l.taken ≡ vec_capacity l.fn.taken;
   counted : l.self.seat.taken.amount + vec_len l.fn.taken ≡ l.fn.self.seat.taken.amount + vec_len l.taken;
   begun : l.self.seat.begun.amount ≡ l.fn.self.seat.begun.amount;

@@ -1,4 +1,4 @@
-use Rattle.std.proofs.Common.{◌≡◌, ◌∙◌, ◌+◌, ◌≤◌, [], fold, length, map, refl, sym, ap, subst, add-zero, arith, rules}
+use Rattle.std.proofs.Common.{◌≡◌, ◌∙◌, ◌+◌, ◌≤◌, [], fold, length, map, refl, sym, ap, add-zero, arith, rules}
 use Rattle.std.specs.Arc.{arc_value}
 use Rattle.std.proofs.lemmas.List.Elements.{All-nil}
 use Rattle.std.proofs.lemmas.Simd.{map-map}
@@ -6,27 +6,26 @@ use Rattle.mcv_base.specs.Reply.{part_value}
 use Rattle.mcv_core.specs.declared.fault.CoreFault.TheVariants.{Memory}
 use Rattle.mcv_session.specs.Desk.{keys_of}
 use Rattle.mcv_text.specs.Request.{request_value}
-use Rattle.mcv_proxy.specs.Desk.{AreFor, WasTaken, with_receipt}
+use Rattle.mcv_proxy.specs.Desk.{WasTaken, with_receipt}
 use Rattle.mcv_proxy.proofs.Routed.{none_is_for}
 use Rattle.mcv_proxy.proofs.desk.HubDeskDesk.ask.Goals as goal
 
 pub returns-in_default-clause-asks : goal.returns-in_default-clause-asks
 returns-in_default-clause-asks g c =
+    let start = g.B.HubLedger.opened in
     let before = c.args.self.now in
-    let request = request_value (arc_value c.args.request.now) in (
-      record {
-        calls = 0;
-        taken = [];
-        each = All-nil WasTaken;
-        kept = c.room_for.ensures.kept;
-        begun = c.room_for.ensures.seat.0 ∙ sym (add-zero before.caller.seat.begun.amount);
-        counted = c.room_for.ensures.seat.1 ∙ sym (add-zero before.caller.seat.taken.amount);
-        most = omega arith;
-        answered = tt;
-        refused = record { cause = Memory; is = refl; why = (none_is_for (arc_value before.accepted) request, tt) };
-      },
-      c.room_for.ensures.routes,
-    )
+    let request = request_value (arc_value c.args.request.now) in
+    record {
+      calls = 0;
+      taken = [];
+      each = All-nil (WasTaken start);
+      kept = c.room_for.ensures.kept;
+      begun = c.room_for.ensures.seat.0 ∙ sym (add-zero before.caller.seat.begun.amount);
+      counted = c.room_for.ensures.seat.1 ∙ sym (add-zero before.caller.seat.taken.amount);
+      most = omega arith;
+      answered = tt;
+      refused = record { cause = Memory; is = refl; why = (none_is_for start.routes request, tt) };
+    }
 
 pub returns-in-Ok-take_replies-clause-asks : goal.returns-in-Ok-take_replies-clause-asks
 returns-in-Ok-take_replies-clause-asks g c =
@@ -39,24 +38,15 @@ returns-in-Ok-take_replies-clause-asks g c =
     let counted : after.taken.amount ≡ before.taken.amount + length taken = search rules in
     let most : length taken ≤ length c.take_replies.new.calls.items = search rules in
     let all_begun : length c.take_replies.new.calls.items ≡ length taken = search rules in
-    let replies : map part_value c.into_parts.result.items ≡ map (λ t. part_value t.reply) taken = ap (map part_value) c.into_parts.ensures ∙ map-map part_value (λ t. t.reply) taken in (
-      record {
-        calls = length c.take_replies.new.calls.items;
-        taken = taken;
-        each = c.take_replies.ensures.each;
-        kept = c.take_replies.ensures.kept ∙ ap (λ x. fold with_receipt x taken) c.room_for.ensures.kept;
-        begun = begun;
-        counted = counted;
-        most = most;
-        answered = (
-          record {
-            for_keys = subst (λ a. AreFor (arc_value a) request taken) c.room_for.ensures.routes c.in-Ok-take_replies.ensures.for_keys;
-            one_each = one_each;
-            replies_are = replies;
-          },
-          all_begun,
-        );
-        refused = tt;
-      },
-      c.take_replies.ensures.routes ∙ c.room_for.ensures.routes,
-    )
+    let replies : map part_value c.into_parts.result.items ≡ map (λ t. part_value t.reply) taken = ap (map part_value) c.into_parts.ensures ∙ map-map part_value (λ t. t.reply) taken in
+    record {
+      calls = length c.take_replies.new.calls.items;
+      taken = taken;
+      each = c.take_replies.ensures.each;
+      kept = c.take_replies.ensures.kept ∙ ap (λ x. fold with_receipt x taken) c.room_for.ensures.kept;
+      begun = begun;
+      counted = counted;
+      most = most;
+      answered = (record { for_keys = c.in-Ok-take_replies.ensures.for_keys; one_each = one_each; replies_are = replies }, all_begun);
+      refused = tt;
+    }
