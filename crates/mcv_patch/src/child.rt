@@ -90,12 +90,14 @@ fn other_key<'a>(
 fn with_member(alloc: Global, old: &Value, key: &str, value: &Value) -> Result<Value, AllocError>
     ensures { (ms : Members) → view old.now ≡ object ms → IfOk result (λ changed. view changed ≡ object (put key.now (view value.now) ms)) }
 {
-    let copy = old.clone()?;
-    let Value::Object(mut members) = copy else {
-        return Ok(copy);
-    };
-    put(&mut members, alloc, key, value.clone()?)?;
-    Ok(Value::Object(members))
+    match old.clone()? {
+        Value::Object(members) => {
+            let mut members = members;
+            put(&mut members, alloc, key, value.clone()?)?;
+            Ok(Value::Object(members))
+        }
+        other => Ok(other),
+    }
 }
 
 /// The same of a list that has become these items.
@@ -110,7 +112,10 @@ fn item_of<'a>(
     let Some(number) = other_number(alloc, pair.old, items)? else {
         return Ok(Child::Many);
     };
-    let (Some(old), Some(new)) = (pair.old.get(number), pair.new.get(number)) else {
+    let Some(old) = pair.old.get(number) else {
+        return Ok(Child::Many);
+    };
+    let Some(new) = pair.new.get(number) else {
         return Ok(Child::Many);
     };
     let changed = with_item(pair.old, number, new)?;
@@ -141,12 +146,14 @@ fn other_number(
 fn with_item(old: &Value, number: usize, value: &Value) -> Result<Value, AllocError>
     ensures { (ds : Items) → view old.now ≡ array ds → IfOk result (λ changed. view changed ≡ array (with_item number (view value.now) ds)) }
 {
-    let copy = old.clone()?;
-    let Value::Array(mut items) = copy else {
-        return Ok(copy);
-    };
-    if number < items.len() {
-        items[number] = value.clone()?;
+    match old.clone()? {
+        Value::Array(items) => {
+            let mut items = items;
+            if number < items.len() {
+                items[number] = value.clone()?;
+            }
+            Ok(Value::Array(items))
+        }
+        other => Ok(other),
     }
-    Ok(Value::Array(items))
 }

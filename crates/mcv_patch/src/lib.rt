@@ -4,11 +4,11 @@
 //! it. `patched` (specs/Patch.antt) says what a change makes of a value.
 #![tactic(auto)]
 
+mod change;
 mod child;
-mod difference;
 mod operation;
 mod pointer;
 mod same;
 
-pub use difference::difference;
+pub use change::difference;
 pub use operation::{Operation, Step, patch_text};
