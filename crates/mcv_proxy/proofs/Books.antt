@@ -85,6 +85,11 @@ one_more_begun start request calls after key call e items h was =
     let P : ℕ → Type 0 = λ n. WasBegun start request n call in
     subst (AreBegun start request) (sym items) (more calls call h (subst P (sym e) was))
 
+-- where a fact holds it does so for an answer that is Ok
+pub always_ok : {A B X : Type 0} (r : Result A B) → X → OnOk r X
+always_ok (Ok v) x = x
+always_ok (Err fault) x = tt
+
 -- ---- a reply is taken
 
 module _ (call : CallId) (old new : HubView) where
