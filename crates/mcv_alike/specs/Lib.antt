@@ -1,0 +1,4 @@
+pub mod Alike
+pub mod Plans
+pub mod Numbers
+pub mod Laws

@@ -1,0 +1,5 @@
+pub mod ClassMended
+pub mod SameClasses
+pub mod EachOperation
+pub mod AskedWell
+pub mod NeedMet

@@ -1,0 +1,4 @@
+pub mod WantedBlocks
+pub mod ClassNeeds
+pub mod EraSets
+mod Examples
