@@ -1,20 +1,31 @@
 -- How the program ends: its exit status, and what it says on standard error where it stops early (own).
-use Rattle.std.specs.Prelude.{ℕ, ◌++◌, Result, Ok, Err, codes}
+use Rattle.std.specs.Prelude.{ℕ, ◌++◌, Result, Ok, Err, codes, decimal}
 use Rattle.clap.specs.Words.{Text}
 use Rattle.mcv_input.specs.Fault.{run_fault_status, run_fault_text}
+use Rattle.mcv_input.specs.declared.fault.RunFault.TheVariants as faults
+use Rattle.mcv_records.specs.declared.fault.RecordsFault.{RecordsFault}
+use Rattle.mcv_records.specs.declared.fault.RecordsFault.TheVariants as records
 use Rattle.mcv_command.specs.declared.stop.Ending.{Ending}
 use Rattle.mcv_command.specs.declared.stop.Ending.TheVariants.{Done, Lost}
 use Rattle.mcv_command.specs.declared.stop.Stop.{Stop}
-use Rattle.mcv_command.specs.declared.stop.Stop.TheVariants.{BadLine, Run}
+use Rattle.mcv_command.specs.declared.stop.Stop.TheVariants.{BadLine, Run, Damaged}
 
 abbrev pub stop_text : Stop → Text
 stop_text BadLine = codes "mcv: bad command line"
 stop_text (Run fault) = codes "mcv: " ++ run_fault_text fault
+stop_text (Damaged slot) = codes "mcv: slot " ++ decimal slot ++ codes " of the spool is damaged"
 
--- 1: the command line is at fault
+-- 1: the command line is at fault; 4: a spool's file is damaged
 abbrev pub stop_status : Stop → ℕ
 stop_status BadLine = 1
 stop_status (Run fault) = run_fault_status fault
+stop_status (Damaged slot) = 4
+
+-- what a fault of a spool's records is to the program
+abbrev pub of_records : RecordsFault → Stop
+of_records (records.Damaged slot) = Damaged slot
+of_records records.Device = Run faults.Device
+of_records records.Memory = Run faults.Memory
 
 -- 3: the configuration can lose a delete
 abbrev pub ending_status : Ending → ℕ

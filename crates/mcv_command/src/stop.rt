@@ -2,11 +2,12 @@
 //! `stop_text`.
 
 ghost use Rattle.std.specs.Prelude.{◌≡◌, Some};
-ghost use Rattle.mcv_command.specs.Stop.{ended_status, ending_status, stop_status, stop_text};
+ghost use Rattle.mcv_command.specs.Stop.{ended_status, ending_status, of_records, stop_status, stop_text};
 ghost use Rattle.mcv_command.specs.declared.stop.Stop.TheVariants.{Run};
 ghost use Rattle.mcv_input.specs.declared.fault.RunFault.TheVariants.{Memory as out_of_memory};
 
 use mcv_input::RunFault;
+use mcv_records::RecordsFault;
 use std::alloc::AllocError;
 use std::fmt;
 
@@ -38,6 +39,8 @@ pub enum Stop {
     BadLine,
     /// What they ask for can't be done.
     Run(RunFault),
+    /// The slot of this number of a spool's file is damaged. What stands before it was written.
+    Damaged(u64),
 }
 
 impl Stop {
@@ -48,6 +51,7 @@ impl Stop {
         match self {
             Stop::BadLine => 1,
             Stop::Run(fault) => fault.status(),
+            Stop::Damaged(_) => 4,
         }
     }
 }
@@ -69,6 +73,7 @@ impl fmt::Display for Stop {
         match self {
             Stop::BadLine => write!(f, "mcv: bad command line"),
             Stop::Run(fault) => write!(f, "mcv: {fault}"),
+            Stop::Damaged(slot) => write!(f, "mcv: slot {slot} of the spool is damaged"),
         }
     }
 }
@@ -78,6 +83,18 @@ impl From<RunFault> for Stop {
 
     fn from(fault: RunFault) -> Stop {
         Stop::Run(fault)
+    }
+}
+
+impl From<RecordsFault> for Stop {
+    ghost from_gives = { λ fault stop. stop ≡ of_records fault };
+
+    fn from(fault: RecordsFault) -> Stop {
+        match fault {
+            RecordsFault::Damaged(slot) => Stop::Damaged(slot),
+            RecordsFault::Device => Stop::Run(RunFault::Device),
+            RecordsFault::Memory => Stop::Run(RunFault::Memory),
+        }
     }
 }
 

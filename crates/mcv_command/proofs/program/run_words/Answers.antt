@@ -1,11 +1,11 @@
-use Rattle.std.proofs.Common.{◌∙◌, List, None, Some, ap, inl, inr, map, refl, sym, subst}
+use Rattle.std.proofs.Common.{◌∙◌, List, None, Some, Err, ap, inl, inr, map, refl, sym, subst}
 use Rattle.std.proofs.lemmas.Result.{IfErr-weaker, IfOk-weaker, err_from_is_err_and}
 use Rattle.clap.specs.Words.{Text}
 use Rattle.mcv_command.specs.Program.{IsStop}
 use Rattle.mcv_command.specs.declared.stop.Stop.{Stop}
 use Rattle.mcv_command.specs.declared.stop.Stop.TheVariants.{Run}
-use Rattle.mcv_command.proofs.ProgramEnds.{judging_stop, running_stop}
-use Rattle.mcv_words.specs.Words.{order_of}
+use Rattle.mcv_command.proofs.ProgramEnds.{judged_whole, judging_stop, listing_stop, run_is_whole, running_stop}
+use Rattle.mcv_words.specs.Words.{order_of, spool_order_of}
 use Rattle.mcv_command.proofs.program.run_words.Goals as goal
 
 pub returns-in_err-run_legs-in-Ok-Legs-clause-stop : goal.returns-in_err-run_legs-in-Ok-Legs-clause-stop
@@ -21,7 +21,7 @@ returns-in_err-run_legs-in-Ok-Legs-clause-stop g c =
 pub returns-in_err-run_legs-in-Ok-Legs-clause-silent : goal.returns-in_err-run_legs-in-Ok-Legs-clause-silent
 returns-in_err-run_legs-in-Ok-Legs-clause-silent g c =
     let gone = err_from_is_err_and c.from_residual.result c.from_residual.ensures.1 in
-    rw (gone.1) (λ no_device unasked. c.in_err-run_legs-in-Ok-Legs.ensures.silent (λ device. no_device (gone.2 ∙ ap Run device)))
+    rw (gone.1) (λ no_device unasked unlisted. c.in_err-run_legs-in-Ok-Legs.ensures.silent (λ device. no_device (gone.2 ∙ ap Run device)))
 
 pub returns-in_err-write_text-in-Err-Help-clause-stop : goal.returns-in_err-write_text-in-Err-Help-clause-stop
 returns-in_err-write_text-in-Err-Help-clause-stop g c =
@@ -60,7 +60,7 @@ pub returns-in-Ok-Run-clause-done : goal.returns-in-Ok-Run-clause-done
 returns-in-Ok-Run-clause-done g c =
     let held = g.F.NamedFiles.held c.args.files.now in
     let asks = rw c.in-Ok-Run.field-0-is at c.in-Ok-Run.ensures.job in
-    IfOk-weaker c.serve.result _ _ (λ ending served. inr (inr (inr (order_of c.in-Ok-Run.options, asks, served)))) (c.serve.ensures.done held)
+    IfOk-weaker c.serve.result _ _ (λ ending served. inr (inr (inr (inl (order_of c.in-Ok-Run.options, asks, served))))) (c.serve.ensures.done held)
 
 pub returns-in-Ok-Run-clause-stop : goal.returns-in-Ok-Run-clause-stop
 returns-in-Ok-Run-clause-stop g c =
@@ -73,7 +73,7 @@ returns-in-Ok-Run-clause-stop g c =
 pub returns-in-Ok-Run-clause-silent : goal.returns-in-Ok-Run-clause-silent
 returns-in-Ok-Run-clause-silent g c =
     let asks = rw c.in-Ok-Run.field-0-is at c.in-Ok-Run.ensures.job in
-    IfErr-weaker c.serve.result _ _ (λ stop silent no_device unasked. silent no_device (λ memory. unasked memory (order_of c.in-Ok-Run.options, asks))) c.serve.ensures.silent
+    IfErr-weaker c.serve.result _ _ (λ stop silent no_device unasked unlisted. silent no_device (λ memory. unasked memory (order_of c.in-Ok-Run.options, asks))) c.serve.ensures.silent
 
 pub returns-in-Ok-Check-Some-default-clause-done : goal.returns-in-Ok-Check-Some-default-clause-done
 returns-in-Ok-Check-Some-default-clause-done g c =
@@ -87,3 +87,55 @@ returns-in-Ok-Check-Some-default-clause-stop g c =
     let known = g.R.Read.remaining c.args.reader.now in
     let asks = rw (c.in-Ok-Check-Some-default.field-0-is, c.in-Ok-Check-Some-default.field-0-0-is) at c.in-Ok-Check-Some-default.ensures.job in
     IfErr-weaker c.judge_by.result _ _ (λ stop holds. judging_stop words held known (Some c.in-Ok-Check-Some-default.name.now) c.in-Ok-Check-Some-default.window stop asks holds) c.judge_by.ensures.stop
+
+pub returns-in-Ok-Spool-clause-done : goal.returns-in-Ok-Spool-clause-done
+returns-in-Ok-Spool-clause-done g c =
+    let asks = rw c.in-Ok-Spool.field-0-is at c.in-Ok-Spool.ensures.job in
+    IfOk-weaker c.list_records.result _ _ (λ ending listed. inr (inr (inr (inr (spool_order_of c.in-Ok-Spool.options, asks, listed.0, listed.1))))) c.list_records.ensures.done
+
+pub returns-in-Ok-Spool-clause-stop : goal.returns-in-Ok-Spool-clause-stop
+returns-in-Ok-Spool-clause-stop g c =
+    let words : List Text = map (λ w. w.now) c.args.words.now in
+    let held = g.F.NamedFiles.held c.args.files.now in
+    let known = g.R.Read.remaining c.args.reader.now in
+    let asks = rw c.in-Ok-Spool.field-0-is at c.in-Ok-Spool.ensures.job in
+    IfErr-weaker c.list_records.result _ _ (λ stop holds. listing_stop words held known (spool_order_of c.in-Ok-Spool.options) stop asks holds) c.list_records.ensures.stop
+
+pub returns-in-Ok-Spool-clause-silent : goal.returns-in-Ok-Spool-clause-silent
+returns-in-Ok-Spool-clause-silent g c =
+    let asks = rw c.in-Ok-Spool.field-0-is at c.in-Ok-Spool.ensures.job in
+    IfErr-weaker c.list_records.result _ _ (λ stop holds no_device unasked unlisted. absurd (unlisted (spool_order_of c.in-Ok-Spool.options, asks))) c.list_records.ensures.stop
+
+pub returns-in-Ok-Spool-clause-listed : goal.returns-in-Ok-Spool-clause-listed
+returns-in-Ok-Spool-clause-listed g c = λ slot is.
+    (spool_order_of c.in-Ok-Spool.options, rw c.in-Ok-Spool.field-0-is at c.in-Ok-Spool.ensures.job, c.list_records.ensures.listed slot is)
+
+pub returns-in_err-run_legs-in-Ok-Legs-clause-listed : goal.returns-in_err-run_legs-in-Ok-Legs-clause-listed
+returns-in_err-run_legs-in-Ok-Legs-clause-listed g c = λ slot is.
+    let gone = err_from_is_err_and c.from_residual.result c.from_residual.ensures.1 in
+    absurd (run_is_whole _ gone.0 _ slot gone.1 gone.2 is)
+
+pub returns-in_err-write_text-in-Err-Help-clause-listed : goal.returns-in_err-write_text-in-Err-Help-clause-listed
+returns-in_err-write_text-in-Err-Help-clause-listed g c = λ slot is.
+    let gone = err_from_is_err_and c.from_residual-in_err-write_text-in-Err-Help.result c.from_residual-in_err-write_text-in-Err-Help.ensures.1 in
+    absurd (run_is_whole _ gone.0 _ slot gone.1 gone.2 is)
+
+pub returns-in_err-write_text-in-Err-Version-clause-listed : goal.returns-in_err-write_text-in-Err-Version-clause-listed
+returns-in_err-write_text-in-Err-Version-clause-listed g c = λ slot is.
+    let gone = err_from_is_err_and c.from_residual-in_err-write_text-in-Err-Version.result c.from_residual-in_err-write_text-in-Err-Version.ensures.1 in
+    absurd (run_is_whole _ gone.0 _ slot gone.1 gone.2 is)
+
+pub returns-in-Ok-Check-None-default-clause-listed : goal.returns-in-Ok-Check-None-default-clause-listed
+returns-in-Ok-Check-None-default-clause-listed g c = λ slot is.
+    let held = g.F.NamedFiles.held c.args.files.now in
+    absurd (judged_whole _ held None c.in-Ok-Check-None-default.window.seconds (g.R.Read.remaining c.args.reader.now) slot (c.judge.ensures.stop held) is)
+
+pub returns-in-Ok-Check-Some-default-clause-listed : goal.returns-in-Ok-Check-Some-default-clause-listed
+returns-in-Ok-Check-Some-default-clause-listed g c = λ slot is.
+    let held = g.F.NamedFiles.held c.args.files.now in
+    absurd (judged_whole _ held (Some c.in-Ok-Check-Some-default.name.now) c.in-Ok-Check-Some-default.window.seconds (g.R.Read.remaining c.args.reader.now) slot c.judge_by.ensures.stop is)
+
+pub returns-in-Ok-Run-clause-listed : goal.returns-in-Ok-Run-clause-listed
+returns-in-Ok-Run-clause-listed g c = λ slot is.
+    let held = g.F.NamedFiles.held c.args.files.now in
+    absurd (judged_whole _ held None c.in-Ok-Run.options.settings.window.seconds (g.R.Read.remaining c.args.reader.now) slot (c.serve.ensures.stop held) is)
