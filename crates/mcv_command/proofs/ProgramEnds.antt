@@ -1,5 +1,5 @@
 -- What the program did, by what the words asked for.
-use Rattle.std.proofs.Common.{◌≡◌, ◌≢◌, ◌∙◌, ap, inl, inr, refl, ◌+◌, ◌<◌, ◌≤◌, ℕ, List, length, take, Option, None, Some, Result, Ok, Err, subst, sym, arith}
+use Rattle.std.proofs.Common.{◌≡◌, ◌≢◌, ◌∙◌, ap, inl, inr, refl, ◌+◌, ◌<◌, ◌≤◌, ℕ, List, length, take, Option, None, Some, Result, Err, subst, sym, arith}
 use Rattle.std.specs.Prelude.{IfErr, IfSome, MatchOption}
 use Rattle.std.proofs.lemmas.List.{length-take}
 use Rattle.std.proofs.lemmas.Option.{IfSome_then}

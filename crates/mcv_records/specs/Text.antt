@@ -1,5 +1,5 @@
 -- The text of a file's records (own): a line for each, in the order of the slots, and a last line with their count.
-use Rattle.std.specs.Prelude.{◌≡◌, ℕ, ◌+◌, Bool, true, false, not, ◌||◌, List, [], ◌∷◌, ◌++◌, length, Option, Some, None, codes, count_by, decimal, if◌then◌else◌}
+use Rattle.std.specs.Prelude.{◌≡◌, ℕ, ◌+◌, Bool, true, false, not, List, [], ◌∷◌, ◌++◌, length, Option, Some, None, codes, count_by, decimal, if◌then◌else◌}
 use Rattle.mcv_cert.specs.Escape.{escaped}
 use Rattle.mcv_spool.specs.File.{is_done, read_record, slots}
 use Rattle.mcv_spool.specs.declared.record.SpoolRecord.{SpoolRecord}

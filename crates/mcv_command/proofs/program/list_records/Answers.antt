@@ -1,4 +1,4 @@
-use Rattle.std.proofs.Common.{◌≡◌, ◌∙◌, ℕ, List, None, Some, Err, ap, inl, inr, refl, sym, subst, take}
+use Rattle.std.proofs.Common.{◌≡◌, ℕ, List, None, Some, Err, ap, refl, sym, subst, take}
 use Rattle.std.proofs.lemmas.Result.{err_from_is_err_and}
 use Rattle.std.specs.Io.KnownBytes.{Appends}
 use Rattle.mcv_spool.specs.File.{damage, slots}

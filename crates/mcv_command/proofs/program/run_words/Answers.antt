@@ -1,4 +1,4 @@
-use Rattle.std.proofs.Common.{◌∙◌, List, None, Some, Err, ap, inl, inr, map, refl, sym, subst}
+use Rattle.std.proofs.Common.{◌∙◌, List, None, Some, ap, inl, inr, map, refl, sym, subst}
 use Rattle.std.proofs.lemmas.Result.{IfErr-weaker, IfOk-weaker, err_from_is_err_and}
 use Rattle.clap.specs.Words.{Text}
 use Rattle.mcv_command.specs.Program.{IsStop}

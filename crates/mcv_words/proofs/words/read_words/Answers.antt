@@ -2,7 +2,7 @@ use Rattle.std.proofs.Common.{◌≡◌, ◌∙◌, inl, inr, List, Option, fals
 use Rattle.std.specs.Prelude.{IsSome}
 use Rattle.clap.specs.Words.{App, Text, HasKind, fault_of, found_of, is_simple, is_simple_and_free, kind_of, rows_of, subcommand_of}
 use Rattle.std.specs.Str.Parse.{ParsesUnsigned, ExplainsUnsignedError, HasUnsignedDigitsIfOk}
-use Rattle.clap.proofs.WalkLemmas.{first_value-rows, one_text-rows}
+use Rattle.clap.proofs.WalkLemmas.{one_text-rows}
 use Rattle.clap.proofs.OnLiterals.{clap_on_literals}
 use Rattle.clap.proofs.ValueTestLemmas.{accepts-Accepts}
 use Rattle.mcv_words.specs.Ranges.{window_limit}
