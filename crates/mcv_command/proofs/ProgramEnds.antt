@@ -11,16 +11,19 @@ use Rattle.mcv_input.specs.declared.fault.RunFault.{RunFault}
 use Rattle.mcv_records.specs.declared.fault.RecordsFault.{RecordsFault}
 use Rattle.mcv_records.specs.declared.fault.RecordsFault.TheVariants as records
 use Rattle.mcv_input.specs.declared.fault.RunFault.TheVariants.{Line, NoRoute, Config, CertificateText, Certificate, Window, Memory, Device}
+use Rattle.mcv_mend.specs.Mending.{IsMendFault}
+use Rattle.mcv_mend.specs.declared.fault.MendFault.{MendFault}
+use Rattle.mcv_mend.specs.declared.fault.MendFault.TheVariants as mend_faults
 use Rattle.mcv_verdict.specs.Fault as check
 use Rattle.mcv_verdict.specs.Verdict.{IsVerdictOn}
 use Rattle.mcv_verdict.specs.declared.verdict.Verdict.{Verdict}
 use Rattle.mcv_verdict.specs.declared.verdict.Verdict.TheVariants.{Covered, Lost}
 use Rattle.mcv_command.specs.declared.stop.Ending.{Ending}
 use Rattle.mcv_command.specs.declared.stop.Stop.{Stop}
-use Rattle.mcv_command.specs.declared.stop.Stop.TheVariants.{BadLine, Run, Damaged}
-use Rattle.mcv_command.specs.Program.{Held, IfGiven, IsJudgingFault, IsListingStop, IsStop}
-use Rattle.mcv_command.specs.Stop.{of_records}
-use Rattle.mcv_words.specs.Words.{AsksCheck, AsksRun, AsksSpool, RunOrder, SpoolOrder}
+use Rattle.mcv_command.specs.declared.stop.Stop.TheVariants.{BadLine, Mended, NoChange, Run, Damaged}
+use Rattle.mcv_command.specs.Program.{Held, IfGiven, IsJudgingFault, IsListingStop, IsMendingStop, IsStop}
+use Rattle.mcv_command.specs.Stop.{of_records, stop_of_mending}
+use Rattle.mcv_words.specs.Words.{AsksCheck, AsksMend, AsksRun, AsksSpool, RunOrder, SpoolOrder}
 use Rattle.mcv_words.specs.declared.options.Window as asked
 
 -- ---- the faults of a verdict, as the program's
@@ -30,12 +33,32 @@ pub judging_stop : (words : List Text) (held : Held) (input : Option Text) (cert
 judging_stop words held input cert window BadLine asks holds = absurd holds
 judging_stop words held input cert window (Damaged slot) asks holds = absurd holds
 judging_stop words held input cert window (Run fault) asks holds = inr (inr (inl (cert, window, asks, holds)))
+judging_stop words held input cert window (Mended fault) asks holds = absurd holds
+judging_stop words held input cert window NoChange asks holds = absurd holds
 
 pub running_stop : (words : List Text) (held : Held) (input : Option Text) (order : RunOrder) (stop : Stop) → AsksRun words order
     → IsJudgingFault held None order.settings.window.seconds input stop → IsStop words held input stop
 running_stop words held input order BadLine asks holds = absurd holds
 running_stop words held input order (Damaged slot) asks holds = absurd holds
-running_stop words held input order (Run fault) asks holds = inr (inr (inr (order, asks, holds)))
+running_stop words held input order (Run fault) asks holds = inr (inr (inr (inr (order, asks, holds))))
+running_stop words held input order (Mended fault) asks holds = absurd holds
+running_stop words held input order NoChange asks holds = absurd holds
+
+-- ---- what isn't mended
+
+pub mending_fault : (input : Option Text) (fault : MendFault) → IfSome input (λ bytes. IsMendFault bytes fault) → IsMendingStop input (stop_of_mending fault)
+mending_fault input (mend_faults.Run fault) holds = holds
+mending_fault input (mend_faults.Limit fault) holds = holds
+mending_fault input mend_faults.GaveUp holds = holds
+
+pub mending_stop : (words : List Text) (held : Held) (input : Option Text) (stop : Stop) → AsksMend words → IsMendingStop input stop → IsStop words held input stop
+mending_stop words held input BadLine asks holds = absurd holds
+mending_stop words held input (Damaged slot) asks holds = absurd holds
+mending_stop words held input (Run fault) asks holds = inr (inr (inr (inl (asks, holds))))
+mending_stop words held input (Mended fault) asks holds = (asks, holds)
+mending_stop words held input NoChange asks holds = (asks, holds)
+
+-- ---- a run's faults
 
 -- a fault that is outside is out of memory or a device's
 pub outside_stop : (stop : Stop) (fault : RunFault) → stop ≡ Run fault → IsOutside fault → stop ≢ Run Device → stop ≢ Run Memory → ⊥
@@ -48,6 +71,8 @@ pub listing_stop : (words : List Text) (held : Held) (input : Option Text) (orde
     → IsStop words held input stop
 listing_stop words held input order BadLine asks holds = absurd holds
 listing_stop words held input order (Run fault) asks holds = inl holds
+listing_stop words held input order (Mended fault) asks holds = absurd holds
+listing_stop words held input order NoChange asks holds = absurd holds
 listing_stop words held input order (Damaged slot) asks holds = (order, asks)
 
 -- what is said of the file that a view shows is said of what the file holds
@@ -77,6 +102,10 @@ run_is_whole result stop fault slot is by damaged = not_damaged fault slot (sym 
 pub judged_whole : (result : Result Ending Stop) (held : Held) (cert : Option Text) (window : ℕ) (input : Option Text) (slot : ℕ)
     → IfErr result (IsJudgingFault held cert window input) → result ≡ Err (Damaged slot) → ⊥
 judged_whole result held cert window input slot holds damaged = subst (λ (r : Result Ending Stop). IfErr r (IsJudgingFault held cert window input)) damaged holds
+
+-- .. nor is one of a configuration that isn't mended
+pub mended_whole : (result : Result Ending Stop) (input : Option Text) (slot : ℕ) → IfErr result (IsMendingStop input) → result ≡ Err (Damaged slot) → ⊥
+mended_whole result input slot holds damaged = subst (λ (r : Result Ending Stop). IfErr r (IsMendingStop input)) damaged holds
 
 -- a damaged slot is one of the records'
 pub damaged_records : (result : Result Ending Stop) (fault : RecordsFault) (stop : Stop) (slot : ℕ) → result ≡ Err stop → stop ≡ of_records fault → result ≡ Err (Damaged slot)

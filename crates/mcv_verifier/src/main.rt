@@ -1,5 +1,5 @@
-//! The program `mcv` without its proxy, for who only judges configurations: `legs`, `check` and `spool` as in the whole
-//! program. `run` is a bad command line here.
+//! The program `mcv` without its proxy, for who only judges and mends configurations: `legs`, `check`, `mend` and `spool` as
+//! in the whole program. `run` is a bad command line here.
 #![tactic(auto)]
 
 use mcv_check::Accepted;

@@ -15,7 +15,7 @@ use Rattle.clap.specs.Simple.{subcommand_rows}
 use Rattle.mcv_words.specs.Ranges.{proxy_limit, session_limit, timeout_limit, window_limit}
 use Rattle.mcv_words.specs.Words.{faults, named, CanRun, IsCheckOf, IsFaultOfKind, IsGivenIn, IsJobOf, IsLineFault, IsNumberOf, IsRunOf, IsSpoolOf, MayBeGivenIn}
 use Rattle.mcv_words.specs.declared.words.Job.{Job}
-use Rattle.mcv_words.specs.declared.words.Job.TheVariants.{Legs, Check, Run, Spool}
+use Rattle.mcv_words.specs.declared.words.Job.TheVariants.{Legs, Check, Mend, Run, Spool}
 use Rattle.mcv_words.proofs.OptionValues.{HasAll, HasNumber, MayHaveNumber}
 use Rattle.mcv_words.specs.declared.words.LineFault.{LineFault}
 use Rattle.mcv_words.specs.declared.words.LineFault.TheVariants.{BadLine, Memory, Help, Version}
@@ -128,6 +128,7 @@ can_run rows has = record {
 pub check_asked : (words : List Text) (rows : List Row) (job : Job) → faults words ≡ [] → named words ≡ Some (codes "check", rows) → IsCheckOf rows job → IsJobOf words job
 check_asked words rows (Legs at) none check of = absurd of
 check_asked words rows (Check cert window) none check of = (none, rows, check, of)
+check_asked words rows Mend none check of = absurd of
 check_asked words rows (Run options) none check of = absurd of
 check_asked words rows (Spool options) none check of = absurd of
 
@@ -135,6 +136,7 @@ check_asked words rows (Spool options) none check of = absurd of
 pub run_asked : (words : List Text) (rows : List Row) (job : Job) → faults words ≡ [] → named words ≡ Some (codes "run", rows) → IsRunOf rows job → IsJobOf words job
 run_asked words rows (Legs at) none run of = absurd of
 run_asked words rows (Check cert window) none run of = absurd of
+run_asked words rows Mend none run of = absurd of
 run_asked words rows (Run options) none run of = (none, rows, run, of)
 run_asked words rows (Spool options) none run of = absurd of
 
@@ -142,5 +144,6 @@ run_asked words rows (Spool options) none run of = absurd of
 pub spool_asked : (words : List Text) (rows : List Row) (job : Job) → faults words ≡ [] → named words ≡ Some (codes "spool", rows) → IsSpoolOf rows job → IsJobOf words job
 spool_asked words rows (Legs at) none spool of = absurd of
 spool_asked words rows (Check cert window) none spool of = absurd of
+spool_asked words rows Mend none spool of = absurd of
 spool_asked words rows (Run options) none spool of = absurd of
 spool_asked words rows (Spool options) none spool of = (none, rows, spool, of)

@@ -17,7 +17,7 @@ use Rattle.mcv_words.specs.declared.options.Settings.{Settings}
 use Rattle.mcv_words.specs.declared.options.SpoolOptions.{SpoolOptions}
 use Rattle.mcv_words.specs.declared.options.Window.{Window}
 use Rattle.mcv_words.specs.declared.words.Job.{Job}
-use Rattle.mcv_words.specs.declared.words.Job.TheVariants.{Legs, Check, Run, Spool}
+use Rattle.mcv_words.specs.declared.words.Job.TheVariants.{Legs, Check, Mend, Run, Spool}
 use Rattle.mcv_words.specs.declared.words.LineFault.{LineFault}
 use Rattle.mcv_words.specs.declared.words.LineFault.TheVariants.{BadLine, Memory, Help, Version}
 
@@ -56,6 +56,10 @@ window_rule = record (number_rule (codes "window") 0 window_limit) { defaults = 
 -- `check [--cert FILE] [--window SECONDS]`
 abbrev pub check_app : App
 check_app = with_rule (with_rule (new_app (codes "check")) cert_rule) window_rule
+
+-- `mend`
+abbrev pub mend_app : App
+mend_app = new_app (codes "mend")
 
 -- `--listen ADDRESS`, `--spool FILE`: wanted
 abbrev pub listen_rule : Rule
@@ -113,10 +117,12 @@ with_version app = record app { top = record app.top { has_version = true } }
 abbrev pub wanting_a_command : App → App
 wanting_a_command app = record app { top = record app.top { subcommand_required = true } }
 
--- `mcv check`, `mcv legs`, `mcv run` and `mcv spool` with their options; `mcv --version`
+-- `mcv check`, `mcv legs`, `mcv mend`, `mcv run` and `mcv spool` with their options; `mcv --version`
 abbrev pub mcv_app : App
 mcv_app =
-    with_subcommand (with_subcommand (with_subcommand (with_subcommand (wanting_a_command (with_version (new_app (codes "mcv")))) check_app.top) legs_app.top) run_app.top) spool_app.top
+    with_subcommand
+    (with_subcommand (with_subcommand (with_subcommand (with_subcommand (wanting_a_command (with_version (new_app (codes "mcv")))) check_app.top) legs_app.top) mend_app.top) run_app.top)
+    spool_app.top
 
 -- ---- what words ask for
 
@@ -140,6 +146,10 @@ HasCheckValues rows cert window = (cert ≡ first_of (codes "cert") rows) × IsN
 -- clap takes the words, and they name the command `check` with these values
 abbrev pub AsksCheck : List Text → (cert : Option Text) → Window → Type 0
 AsksCheck words cert window = (faults words ≡ []) × (rows : List Row) × (named words ≡ Some (codes "check", rows)) × HasCheckValues rows cert window
+
+-- clap takes the words, and they name the command `mend`
+abbrev pub AsksMend : List Text → Type 0
+AsksMend words = (faults words ≡ []) × (rows : List Row) × (named words ≡ Some (codes "mend", rows))
 
 -- the value of an option that may be left out: none, or a number
 abbrev pub IsNumberIfGiven : (option : Text) → List Row → Option ℕ → Type 0
@@ -198,6 +208,7 @@ AsksSpool words order = (faults words ≡ []) × (rows : List Row) × (named wor
 abbrev pub IsCheckOf : List Row → Job → Type 0
 IsCheckOf rows (Legs at) = ⊥
 IsCheckOf rows (Check cert window) = HasCheckValues rows (option_map (λ name. name.now) cert) window
+IsCheckOf rows Mend = ⊥
 IsCheckOf rows (Run options) = ⊥
 IsCheckOf rows (Spool options) = ⊥
 
@@ -205,6 +216,7 @@ IsCheckOf rows (Spool options) = ⊥
 abbrev pub IsRunOf : List Row → Job → Type 0
 IsRunOf rows (Legs at) = ⊥
 IsRunOf rows (Check cert window) = ⊥
+IsRunOf rows Mend = ⊥
 IsRunOf rows (Run options) = HasRunValues rows (order_of options)
 IsRunOf rows (Spool options) = ⊥
 
@@ -212,6 +224,7 @@ IsRunOf rows (Spool options) = ⊥
 abbrev pub IsSpoolOf : List Row → Job → Type 0
 IsSpoolOf rows (Legs at) = ⊥
 IsSpoolOf rows (Check cert window) = ⊥
+IsSpoolOf rows Mend = ⊥
 IsSpoolOf rows (Run options) = ⊥
 IsSpoolOf rows (Spool options) = HasSpoolValues rows (spool_order_of options)
 
@@ -237,6 +250,7 @@ pub record CanRun (rows : List Row) : Type 0 where
 abbrev pub IsJobOf : List Text → Job → Type 0
 IsJobOf words (Check cert window) = AsksCheck words (option_map (λ name. name.now) cert) window
 IsJobOf words (Legs at) = (faults words ≡ []) × (rows : List Row) × (named words ≡ Some (codes "legs", rows)) × IsNumberOf (codes "at") rows at.0
+IsJobOf words Mend = AsksMend words
 IsJobOf words (Run options) = AsksRun words (order_of options)
 IsJobOf words (Spool options) = AsksSpool words (spool_order_of options)
 
