@@ -10,8 +10,8 @@ ghost use Rattle.mcv_words.specs.declared.words.LineFault.TheVariants.{Memory as
 
 use crate::help::{
     ABOUT, ALL, AT, CERT, CHECK_ABOUT, CHECK_FORM, CLIENT_TIMEOUT, EXAMPLE, FILE, LEGS_ABOUT,
-    LEGS_FORM, LISTEN, MEND_ABOUT, MEND_FORM, PROXIES, RUN_ABOUT, RUN_FORM, SERVER_TIMEOUT, SESSIONS,
-    SPOOL, SPOOL_ABOUT, SPOOL_FORM, WINDOW,
+    LEGS_FORM, LISTEN, MEND_ABOUT, MEND_FORM, PROXIES, RUN_ABOUT, RUN_FORM, SERVER_TIMEOUT,
+    SESSIONS, SPOOL, SPOOL_ABOUT, SPOOL_FORM, WINDOW,
 };
 use crate::options::{
     ClientTimeout, InRange, Proxies, RunOptions, ServerTimeout, Sessions, Settings, SpoolOptions,
