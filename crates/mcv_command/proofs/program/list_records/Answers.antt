@@ -31,11 +31,11 @@ returns-in-Ok-clause-done g c =
       refl,
     )
 
-pub returns-in-Err-clause-stop : goal.returns-in-Err-clause-stop
-returns-in-Err-clause-stop g c = records_stop c.in-Err.fault c.from.result c.from.ensures
+pub returns-clause-stop : goal.returns-clause-stop
+returns-clause-stop g c = records_stop c.in-Err.fault c.from.result c.from.ensures
 
-pub returns-in-Err-clause-listed : goal.returns-in-Err-clause-listed
-returns-in-Err-clause-listed g c = λ slot is.
+pub returns-clause-listed : goal.returns-clause-listed
+returns-clause-listed g c = λ slot is.
     let old = g.W.Write.contents c.args.writer.now in
     let new = g.W.Write.contents c.write_records.new.writer in
     let shown = shown_of c.args.options.all in

@@ -56,6 +56,12 @@ returns-in-Ok-Check-None-default-clause-stop g c =
     let asks = rw (c.in-Ok-Check-None-default.field-0-is, c.in-Ok-Check-None-default.field-0-0-is) at c.in-Ok-Check-None-default.ensures.job in
     IfErr-weaker c.judge.result _ _ (λ stop holds. judging_stop words held known None c.in-Ok-Check-None-default.window stop asks holds) (c.judge.ensures.stop held)
 
+pub returns-in-Ok-Check-None-default-clause-silent : goal.returns-in-Ok-Check-None-default-clause-silent
+returns-in-Ok-Check-None-default-clause-silent g c = IfErr-weaker c.judge.result _ _ (λ stop silent no_device unasked unlisted. silent no_device) c.judge.ensures.silent
+
+pub returns-in-Ok-Check-Some-default-clause-silent : goal.returns-in-Ok-Check-Some-default-clause-silent
+returns-in-Ok-Check-Some-default-clause-silent g c = IfErr-weaker c.judge_by.result _ _ (λ stop silent no_device unasked unlisted. silent no_device) c.judge_by.ensures.silent
+
 pub returns-in-Ok-Mend-clause-done : goal.returns-in-Ok-Mend-clause-done
 returns-in-Ok-Mend-clause-done g c =
     let asks = rw c.in-Ok-Mend.field-0-is at c.in-Ok-Mend.ensures.job in
