@@ -9,7 +9,7 @@ use mcv_net::{NetFault, SpoolFiles, serve};
 use mcv_words::{RunOptions, Settings};
 use std::alloc::{AllocError, Global};
 use std::cell::Cell;
-use std::fs::Files;
+use std::fs::{File, Files};
 use std::io;
 use std::io::{Eprint, Write};
 use std::net::{Net, TcpListener, TcpStream};
@@ -85,7 +85,7 @@ impl Proxy for Orders {
 }
 
 /// Does what the words ask for, and keeps what is to be served.
-fn read<R: Env + AllocGlobal + Input + Print + Files>(
+fn read<R: Env + AllocGlobal + Input + Print + Files<File = File>>(
     rt: &R,
     orders: &Orders,
 ) -> Result<Ending, Stop> {
@@ -141,7 +141,7 @@ where
         + AllocGlobal
         + Input
         + Print
-        + Files
+        + Files<File = File>
         + Net<Stream = TcpStream, Listener = TcpListener>
         + SpoolFiles
         + Threads

@@ -10,4 +10,6 @@ mod input;
 #[cfg(test)]
 mod legs;
 #[cfg(test)]
+mod spool;
+#[cfg(test)]
 mod verdict;

@@ -1,5 +1,5 @@
-//! The program `mcv` without its proxy, for who only judges and mends configurations: `legs`, `check` and `mend` as in the
-//! whole program. `run` is a bad command line here.
+//! The program `mcv` without its proxy, for who only judges and mends configurations: `legs`, `check`, `mend` and `spool` as
+//! in the whole program. `run` is a bad command line here.
 #![tactic(auto)]
 
 use mcv_check::Accepted;
@@ -7,7 +7,7 @@ use mcv_command::{Ending, Proxy, Stop, SystemFiles, exit_status, given_words, ru
 use mcv_input::RunFault;
 use mcv_words::RunOptions;
 use std::alloc::Global;
-use std::fs::Files;
+use std::fs::{File, Files};
 use std::io;
 use std::io::Write;
 use std::process::ExitCode;
@@ -40,7 +40,7 @@ impl Proxy for NoProxy {
     }
 }
 
-fn run<R: Env + AllocGlobal + Input + Print + Files>(rt: &R) -> Result<Ending, Stop> {
+fn run<R: Env + AllocGlobal + Input + Print + Files<File = File>>(rt: &R) -> Result<Ending, Stop> {
     let alloc = rt.alloc();
     let words = given_words(rt)?;
     let texts: Vec<&str> = words.iter().map(|word| word.as_str()).collect(alloc)?;
