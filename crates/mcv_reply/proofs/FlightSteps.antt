@@ -1,5 +1,5 @@
 -- Steps of the oldest leg's reply.
-use Rattle.std.proofs.Common.{◌≡◌, ◌≢◌, ℕ, ◌<◌, ◌≤◌, Bool, true, false, List, [], ◌∷◌, ◌++◌, length, get_or, take, drop, map, refl, sym, ap, subst, ◌∙◌, arith, append_assoc, length-append, Option, Some, None, Result, Ok, Err, OnOk, OnErr, if◌then◌else◌}
+use Rattle.std.proofs.Common.{◌≡◌, ◌≢◌, ◌⊎◌, inl, inr, ℕ, ◌<◌, ◌≤◌, Bool, true, false, List, [], ◌∷◌, ◌++◌, length, get_or, take, drop, map, refl, sym, ap, subst, ◌∙◌, arith, append_assoc, length-append, Option, Some, None, Result, Ok, Err, OnOk, OnErr, if◌then◌else◌}
 use Rattle.std.specs.List.{All}
 use Rattle.std.specs.Option.{option_to_list}
 use Rattle.std.proofs.lemmas.List.{append-nil, map-append, nil_from_length, take-append-drop}
@@ -20,7 +20,7 @@ use Rattle.mcv_reply.specs.Reply.{Spells}
 use Rattle.mcv_reply.specs.Progress.{IsAt, IsAtStage, StepMakes, Steps, bytes_at, reader_state_at}
 use Rattle.mcv_reply.specs.Replies as replies
 use Rattle.mcv_reply.specs.Replies.{Connection, HaveKeys, IsUnasked, Leg, Receives, Replied, Sends, Waits}
-use Rattle.mcv_reply.specs.Flight.{IsFlight, IsRead, Leads, OldestMakes, OldestSteps, ReadsReplies, connection_of, held_in, is_over}
+use Rattle.mcv_reply.specs.Flight.{HasCome, IsFlight, IsRead, Leads, OldestMakes, OldestSteps, ReadsReplies, connection_of, held_in, is_over}
 use Rattle.mcv_reply.proofs.Steps.{is_front}
 use Rattle.mcv_reply.proofs.Words.{key_clean, key_short}
 
@@ -42,6 +42,15 @@ fed_open stages.Return p bytes e = (refl, cc)
 fed_open stages.Last p bytes e = (refl, cc)
 fed_open stages.Answered p bytes e = absurd (cc)
 fed_open stages.Closed p bytes e = absurd (cc)
+
+-- of a value some has come
+not_none : (front back : List ℕ) (byte : ℕ) → (front ++ byte ∷ back) ≢ []
+not_none front back byte e = omega (arith, ap length e, length-append front (byte ∷ back))
+
+pub value_come : (stage : Stage) (p : Progress) → (stage ≡ stages.Value) ⊎ (stage ≡ stages.Return) ⊎ (stage ≡ stages.Last) → HasCome stage p
+value_come stage p (inl e) = subst (λ (s : Stage). HasCome s p) (sym e) (not_none p.first.items p.body.items 10)
+value_come stage p (inr (inl e)) = subst (λ (s : Stage). HasCome s p) (sym e) (not_none p.first.items (p.body.items ++ 13 ∷ []) 10)
+value_come stage p (inr (inr e)) = subst (λ (s : Stage). HasCome s p) (sym e) (not_none p.first.items (p.body.items ++ 13 ∷ 10 ∷ p.text.items) 10)
 
 -- before a reply nothing has come
 pub starts_read : (legs : List Leg) (p : Progress) → p.stage ≡ stages.Start → IsRead legs p
@@ -65,6 +74,9 @@ oldest_key leg legs first keys = All-head (λ l. is_key_word l.key ≡ true) leg
 
 pub oldest_read : (leg : Leg) (legs : List Leg) (p : Progress) → Leads leg legs → IsRead legs p → IsAt leg.op leg.key p × (is_over p.stage ≡ false)
 oldest_read leg legs p first read = subst (λ (l : List Leg). IsRead l p) first.1 read
+
+pub steps_of : (op own : Op) (key word bytes piece : List ℕ) (result : Result Step ReplyFault) (new : Progress) → op ≡ own → key ≡ word → Steps op key bytes piece result new → Steps own word bytes piece result new
+steps_of op own key word bytes piece result new op_is key_is steps = subst (λ (o : Op). Steps o word bytes piece result new) op_is (subst (λ (k : List ℕ). Steps op k bytes piece result new) key_is steps)
 
 -- where no leg is in flight any byte is unasked
 pub unasked_none : (legs : List Leg) (held piece : List ℕ) → legs ≡ [] → 0 < length piece → IsUnasked legs (held ++ piece)
@@ -125,6 +137,13 @@ pub leads_fault : (legs : List Leg) (bytes left : List ℕ) (given : List ReplyV
 leads_fault legs bytes left given now p NotAReply after last new end on steps = (now, held_in p ++ left, leads_end legs bytes given now (held_in p ++ left) on, steps)
 leads_fault legs bytes left given now p Closed after last new end on steps = steps
 leads_fault legs bytes left given now p Memory after last new end on steps = (now, held_in p ++ left, leads_end legs bytes given now (held_in p ++ left) on)
+
+pub leads_memory : (legs : List Leg) (bytes : List ℕ) (given : List ReplyValue) (now : List Leg) (rest : List ℕ) (fault : ReplyFault) (last : List Leg) (end : Progress) → fault ≡ Memory → LeadsOn legs bytes given now rest → ReadsReplies legs bytes given (Err fault) last end
+leads_memory legs bytes given now rest fault last end is on = subst (λ (f : ReplyFault). ReadsReplies legs bytes given (Err f) last end) (sym is) (now, rest, leads_end legs bytes given now rest on)
+
+-- the piece has been read
+pub leads_all : (legs : List Leg) (bytes left : List ℕ) (given : List ReplyValue) (now : List Leg) (p : Progress) → length left ≡ 0 → IsFlight now p → LeadsOn legs bytes given now (held_in p ++ left) → IsFlight now p × Replied legs bytes given now (held_in p)
+leads_all legs bytes left given now p none flight on = (flight, subst (λ (t : List ℕ). Replied legs bytes given now t) (ap (λ t. held_in p ++ t) (nil_from_length left none) ∙ append-nil (held_in p)) (leads_end legs bytes given now (held_in p ++ left) on))
 
 -- what is read waits for more
 pub flight_waits : (legs : List Leg) (p : Progress) → IsFlight legs p → Waits legs (held_in p)
