@@ -1,6 +1,5 @@
 -- Steps of the oldest leg's reply.
-use Rattle.std.proofs.Common.{◌≡◌, ◌≢◌, ◌⊎◌, inl, inr, ℕ, ◌<◌, ◌≤◌, Bool, true, false, List, [], ◌∷◌, ◌++◌, length, get_or, take, drop, map, refl, sym, ap, subst, ◌∙◌, arith, append_assoc, length-append, Option, Some, None, Result, Ok, Err, OnOk, OnErr, if◌then◌else◌}
-use Rattle.std.specs.List.{All}
+use Rattle.std.proofs.Common.{◌≡◌, ◌≢◌, ◌⊎◌, inl, inr, ℕ, ◌<◌, Bool, true, false, List, [], ◌∷◌, ◌++◌, length, get_or, take, drop, map, refl, sym, ap, subst, ◌∙◌, arith, append_assoc, length-append, Option, Some, None, Result, Ok, Err, OnOk, OnErr, if◌then◌else◌}
 use Rattle.std.specs.Option.{option_to_list}
 use Rattle.std.proofs.lemmas.List.{append-nil, map-append, nil_from_length, take-append-drop}
 use Rattle.std.proofs.lemmas.List.Elements.{All-head, All-tail, All-nil, All-cons, All-append}
@@ -14,15 +13,14 @@ use Rattle.mcv_reply.specs.declared.progress.Progress.{Progress}
 use Rattle.mcv_reply.specs.declared.progress.Step.{Step}
 use Rattle.mcv_reply.specs.declared.progress.Stage.{Stage}
 use Rattle.mcv_reply.specs.declared.progress.Stage.TheVariants as stages
-use Rattle.mcv_reply.specs.Candidate.{is_clean}
-use Rattle.mcv_reply.specs.Reader.{Fed, IsFront}
+use Rattle.mcv_reply.specs.Reader.{Fed}
 use Rattle.mcv_reply.specs.Reply.{Spells}
 use Rattle.mcv_reply.specs.Progress.{IsAt, IsAtStage, StepMakes, Steps, bytes_at, reader_state_at}
 use Rattle.mcv_reply.specs.Replies as replies
-use Rattle.mcv_reply.specs.Replies.{Connection, HaveKeys, IsUnasked, Leg, Receives, Replied, Sends, Waits}
+use Rattle.mcv_reply.specs.Replies.{Connection, HaveKeys, IsUnasked, Leg, Receives, Replied, Waits}
 use Rattle.mcv_reply.specs.Flight.{HasCome, IsFlight, IsRead, Leads, OldestMakes, OldestSteps, ReadsReplies, connection_of, held_in, is_over}
 use Rattle.mcv_reply.proofs.Steps.{is_front}
-use Rattle.mcv_reply.proofs.Words.{key_clean, key_short}
+use Rattle.mcv_reply.proofs.Words.{key_clean}
 
 -- a reply that is being read has bytes
 pub open_fed : (stage : Stage) (p : Progress) → is_over stage ≡ false → reader_state_at stage p ≡ Fed (bytes_at stage p)

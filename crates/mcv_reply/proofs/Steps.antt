@@ -7,7 +7,6 @@ use Rattle.std.proofs.lemmas.List.{append-nil, take-append-drop, drop_more, leng
 use Rattle.std.proofs.lemmas.List.Elements.{All-from_get_or}
 use Rattle.memchr.specs.Find.{IsFirstByte, is_byte}
 use Rattle.mcv_base.specs.declared.operation.Op.{Op}
-use Rattle.mcv_base.specs.declared.operation.Op.TheVariants as ops
 use Rattle.mcv_base.specs.declared.reply.Reply.{Reply}
 use Rattle.mcv_base.specs.Reply.{ReplyValue, hit, reply_value}
 use Rattle.mcv_reply.specs.declared.word.Word.{Word}
@@ -26,10 +25,9 @@ use Rattle.mcv_reply.specs.Word.{answers, has_cas}
 use Rattle.mcv_reply.specs.Line.{IsLine}
 use Rattle.mcv_reply.specs.Candidate.{GoesOn, IsKept, is_clean, zero_head}
 use Rattle.mcv_reply.specs.Reply.{Spells, cas_said}
-use Rattle.mcv_reply.specs.Reader.{ReaderState, Fed, Answered, Answers, FeedsAt, IsFront, BeginsNone, IsNoReply}
+use Rattle.mcv_reply.specs.Reader.{ReaderState, Fed, Answers, FeedsAt, IsFront, BeginsNone, IsNoReply}
 use Rattle.mcv_reply.specs.Progress.{bytes_at, HitMade, IsAt, IsAtStage, LastEnds, FirstEnds, ReadsPiece, StepMakes, Steps, reader_state_at}
 use Rattle.mcv_reply.proofs.Spelling.{replies_one}
-use Rattle.mcv_reply.proofs.OpenCandidates.{clean_ends}
 use Rattle.mcv_reply.proofs.Stages.{error_line, front_nothing, front_last, front_line, front_return, front_value, begins_more, end_line, last_right, last_whole, no_last_begins, no_line_begins, only_end}
 
 -- no LF is found

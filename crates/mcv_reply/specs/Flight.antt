@@ -8,9 +8,8 @@ use Rattle.mcv_reply.specs.declared.progress.Stage.{Stage}
 use Rattle.mcv_reply.specs.declared.progress.Stage.TheVariants as stages
 use Rattle.mcv_reply.specs.declared.progress.Progress.{Progress}
 use Rattle.mcv_reply.specs.declared.progress.Step.{Step}
-use Rattle.mcv_reply.specs.Reader.{Fed}
 use Rattle.mcv_reply.specs.Reply.{Spells}
-use Rattle.mcv_reply.specs.Progress.{IsAt, bytes_at, reader_state_at}
+use Rattle.mcv_reply.specs.Progress.{IsAt, bytes_at}
 use Rattle.mcv_reply.specs.Replies.{Connection, Open, Closed, HaveKeys, IsUnasked, Leg, Replied}
 
 -- nothing is read any more

@@ -180,3 +180,30 @@ fn a_leg_is_sent_behind_a_piece(rt: HostRuntime) {
     );
     check_replies(&rt, given.as_slice(), "hit miss");
 }
+
+/// A hit comes. Each allocation may fail here: then no reply is given, and the connection is closed.
+fn check_given_or_closed(rt: &impl Abort, replies: &mut Replies, given: &mut Vec<Reply>) {
+    let found = fed(replies, b"VALUE a 0 1\r\nx\r\nEND\r\n", given);
+    if found == "memory" {
+        check_replies(rt, given.as_slice(), "");
+        check(rt, fed(replies, b"END\r\n", given) == "closed", "closed");
+    } else {
+        check(rt, found == "read", "read");
+        check_replies(rt, given.as_slice(), "hit");
+    }
+}
+
+#[test]
+fn want_of_memory_closes_the_connection(rt: HostRuntime) {
+    let mut replies = Replies::new(rt.alloc());
+    let mut given = Vec::new(rt.alloc());
+    if let Some(rest) = rest_of(rt.alloc(), "a") {
+        match replies.sent(Op::Get, rest) {
+            Ok(()) => check_given_or_closed(&rt, &mut replies, &mut given),
+            Err(fault) => {
+                check(&rt, fault_name(fault) == "memory", "memory");
+                check(&rt, replies.in_flight() == 0, "no leg is in flight");
+            }
+        }
+    }
+}

@@ -1,4 +1,4 @@
-use Rattle.std.proofs.Common.{◌≡◌, ◌-◌, ◌∙◌, ◌++◌, length, take, drop, Option, Some, None, IfSome, is_some, true, sym, arith}
+use Rattle.std.proofs.Common.{◌≡◌, ◌-◌, ◌∙◌, length, drop, Option, Some, None, IfSome, is_some, true, sym, arith}
 use Rattle.std.proofs.lemmas.List.{length-drop, take_all}
 use Rattle.mcv_reply.proofs.PlainSteps.{value_ended}
 use Rattle.mcv_reply.proofs.progress.ends_value.Goals as goal

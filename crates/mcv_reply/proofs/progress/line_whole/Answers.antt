@@ -1,4 +1,4 @@
-use Rattle.std.proofs.Common.{[], ◌+◌, ◌++◌, List, ℕ, take, drop, ap, subst, sym, ◌∙◌, arith}
+use Rattle.std.proofs.Common.{[], ◌+◌, List, ℕ, take, drop, subst, sym, arith}
 use Rattle.std.proofs.lemmas.Result.{err_from_is_err_and}
 use Rattle.mcv_reply.specs.declared.word.Row.TheVariants.{Reply}
 use Rattle.mcv_reply.specs.Line.{IsLine}
