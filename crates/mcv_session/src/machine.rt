@@ -1,7 +1,8 @@
 //! A session that waits for nobody: it is fed with bytes, gives requests one after the other, is given their answers,
 //! and holds what is to be written.
 
-ghost use Rattle.std.specs.Prelude.{◌≡◌, ◌≢◌, ◌↔◌, ◌<◌, ◌≤◌, ◌++◌, [], ◌∷◌, List, map, length, take, drop, None, Some, IfOk, OnOk, OnErr, MatchOption, Err, Ok};
+ghost use Rattle.std.specs.Prelude.{◌≡◌, ◌≢◌, ◌↔◌, ◌<◌, ◌≤◌, ◌++◌, [], ◌∷◌, List, map, length, take, drop, None, Some, IfOk, OnOk, OnErr, MatchOption, ⊤, Err, Ok};
+ghost use Rattle.std.specs.Option.{option_to_list};
 ghost use Rattle.std.specs.Result.{IsErrOf};
 ghost use Rattle.std.specs.Arc.{arc_value};
 ghost use Rattle.mcv_base.specs.Reply.{part_value};
@@ -24,6 +25,9 @@ use std::collections::VecDeque;
 use std::marker::Model;
 use std::sync::Arc;
 
+/// The most items for which room is kept where none waits.
+const KEPT: usize = 16;
+
 /// Puts items behind those that wait.
 fn push_items(waiting: &mut VecDeque<Item>, items: Vec<Item>) -> Result<(), AllocError>
     ensures { OnOk result (map item_value waiting.new.items ≡ map item_value waiting.old.items ++ map item_value items.items) }
@@ -34,6 +38,20 @@ fn push_items(waiting: &mut VecDeque<Item>, items: Vec<Item>) -> Result<(), Allo
         }
     }
     Ok(())
+}
+
+/// Takes the first item that waits. Where none does, the room of more than 16 is given back.
+fn take_first(waiting: &mut VecDeque<Item>) -> Option<Item>
+    ensures items { waiting.old.items ≡ option_to_list result ++ waiting.new.items }
+    ensures none { MatchOption result (waiting.old.items ≡ []) (λ _. ⊤) }
+{
+    match waiting.pop_front() {
+        Some(item) => Some(item),
+        None => {
+            waiting.shrink_to(KEPT);
+            None
+        }
+    }
 }
 
 /// A client's session that waits for nobody.
@@ -230,7 +248,7 @@ impl Machine {
         ensures ok { IfOk result (λ turn. Turns self.old turn self.new) }
         ensures err { OnErr result (Fails self.old self.new) }
     {
-        let Some(item) = self.waiting.pop_front() else {
+        let Some(item) = take_first(&mut self.waiting) else {
             return Ok(Turn::Idle);
         };
         let is_last = ends(&item);

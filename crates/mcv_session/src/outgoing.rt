@@ -56,8 +56,15 @@ impl Outgoing {
         requires { count ≤ length self.old }
         ensures { self.new ≡ drop count self.old }
     {
-        self.at += count;
+        self.skip(count);
         self.settle();
+    }
+
+    fn skip(&mut self, count: usize)
+        requires { count ≤ length self.old }
+        ensures { self.new ≡ drop count self.old }
+    {
+        self.at += count;
     }
 
     /// Gives back the room of the written bytes, once they are as many as the others. Where there is no memory for that, it
@@ -65,10 +72,10 @@ impl Outgoing {
     fn settle(&mut self)
         ensures { self.new ≡ self.old }
     {
-        if self.at < KEPT || self.at < self.bytes.len() - self.at {
+        if self.at < KEPT || self.at < self.bytes().len() {
             return;
         }
-        let Ok(left) = Vec::from_slice(self.alloc, &self.bytes.as_slice()[self.at..]) else {
+        let Ok(left) = Vec::from_slice(self.alloc, self.bytes()) else {
             return;
         };
         self.bytes = left;

@@ -146,11 +146,16 @@ fn answer_all(rt: &impl Abort, session: &mut Machine, desk: &mut Script<'_>) {
     check(rt, false, "no request more");
 }
 
-/// Writes so many bytes of the output, and then the others.
-fn write_output(rt: &impl Abort, session: &mut Machine, count: usize, text: &mut Vec<u8>) {
+/// Writes so many bytes of the output, or all.
+fn write_part(rt: &impl Abort, session: &mut Machine, count: usize, text: &mut Vec<u8>) {
     let count = count.min(session.output().len());
     push(rt, text, &session.output()[..count]);
     session.wrote(count);
+}
+
+/// Writes so many bytes of the output, and then the others.
+fn write_output(rt: &impl Abort, session: &mut Machine, count: usize, text: &mut Vec<u8>) {
+    write_part(rt, session, count, text);
     push(rt, text, session.output());
     session.wrote_all();
 }
@@ -223,6 +228,40 @@ fn a_stream_may_come_before_it_is_answered(rt: HostRuntime) {
     for row in &ROWS {
         check_late(&rt, row);
     }
+}
+
+/// A session that answered so many lines by itself.
+fn versions(rt: &(impl AllocGlobal + Abort), count: usize) -> Machine {
+    let mut session = Machine::new(rt.alloc());
+    for _line in 0..count {
+        check(rt, session.feed(b"version\r\n").is_ok(), "a line");
+    }
+    check(
+        rt,
+        matches!(session.next_request(), Ok(None)),
+        "no request",
+    );
+    session
+}
+
+#[test]
+fn long_output_is_written_in_parts(rt: HostRuntime) {
+    let mut session = versions(&rt, 1_000);
+    let mut text = Vec::new(rt.alloc());
+    for _part in 0..22 {
+        write_part(&rt, &mut session, 700, &mut text);
+    }
+    check(&rt, session.output().is_empty(), "all is written");
+    check(&rt, text.len() == 15_000, "each answer");
+    for line in text.as_slice().chunks(15) {
+        check(&rt, line == b"VERSION mcv 1\r\n".as_slice(), "an answer");
+    }
+    check(&rt, session.feed(b"get a\r\n").is_ok(), "goes on");
+    check(
+        &rt,
+        matches!(session.next_request(), Ok(Some(_))),
+        "a request",
+    );
 }
 
 #[test]
