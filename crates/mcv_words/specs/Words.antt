@@ -1,12 +1,13 @@
 -- What the words of a command line ask for. The words are those of the shell, the program's name
 -- first; how they are read is clap's: `fault_of` lists the kinds of fault that it finds with words,
 -- and `subcommand_of` the subcommand that they name.
-use Rattle.std.specs.Prelude.{◌≡◌, ◌≢◌, ◌<◌, ◌≤◌, ◌^◌, ◌⊎◌, ⊤, ℕ, true, List, [], ◌∷◌, Option, None, Some, IsSome, codes, fold, option_map}
+use Rattle.std.specs.Prelude.{◌≡◌, ◌≢◌, ◌<◌, ◌≤◌, ◌^◌, ◌⊎◌, ⊤, ℕ, Bool, true, false, List, [], ◌∷◌, Option, None, Some, IsSome, codes, fold, option_map}
 use Rattle.std.specs.Str.Parse.{IsNumeral, digits_value, without_leading_plus}
 use Rattle.clap.specs.Words.{App, IsAmong, Kinds, Row, Rule, Text, fault_of, first_of, new_app, new_rule, one_of, subcommand_of, with_rule, with_subcommand}
 use Rattle.clap.specs.declared.builder.value_parser.ValueParser.TheVariants as parsers
 use Rattle.clap.specs.declared.error.kind.ErrorKind.{ErrorKind}
 use Rattle.clap.specs.declared.error.kind.ErrorKind.TheVariants.{DisplayHelp, DisplayVersion, OutOfMemory}
+use Rattle.clap.specs.declared.builder.action.ArgAction.TheVariants.{SetTrue}
 use Rattle.mcv_words.specs.Ranges.{proxy_limit, session_limit, timeout_limit, window_limit}
 use Rattle.mcv_words.specs.declared.options.ClientTimeout.{ClientTimeout}
 use Rattle.mcv_words.specs.declared.options.RunOptions.{RunOptions}
@@ -55,9 +56,16 @@ window_rule = record (number_rule (codes "window") 0 window_limit) { defaults = 
 abbrev pub check_app : App
 check_app = with_rule (with_rule (new_app (codes "check")) cert_rule) window_rule
 
--- `mend`
+-- a flag, which takes no value
+abbrev pub flag_rule : Text → Rule
+flag_rule name = record (new_rule name) {
+  long = Some name;
+  action = Some SetTrue;
+}
+
+-- `mend [--patch]`
 abbrev pub mend_app : App
-mend_app = new_app (codes "mend")
+mend_app = with_rule (new_app (codes "mend")) (flag_rule (codes "patch"))
 
 -- `--listen ADDRESS`, `--spool FILE`: wanted
 abbrev pub listen_rule : Rule
@@ -124,9 +132,14 @@ HasCheckValues rows cert window = (cert ≡ first_of (codes "cert") rows) × IsN
 abbrev pub AsksCheck : List Text → (cert : Option Text) → Window → Type 0
 AsksCheck words cert window = (faults words ≡ []) × (rows : List Row) × (named words ≡ Some (codes "check", rows)) × HasCheckValues rows cert window
 
--- clap takes the words, and they name the command `mend`
-abbrev pub AsksMend : List Text → Type 0
-AsksMend words = (faults words ≡ []) × (rows : List Row) × (named words ≡ Some (codes "mend", rows))
+-- whether a flag is given: clap reads it as `true`, and as `false` where it isn't
+abbrev pub IsFlag : (flag : Text) → List Row → Bool → Type 0
+IsFlag flag rows b =
+    (one_of flag rows ≡ Some (codes "true") → b ≡ true) × (one_of flag rows ≡ Some (codes "false") → b ≡ false) × (one_of flag rows ≡ None → b ≡ false)
+
+-- clap takes the words, and they name the command `mend`, with `--patch` or without
+abbrev pub AsksMend : List Text → (patch : Bool) → Type 0
+AsksMend words patch = (faults words ≡ []) × (rows : List Row) × (named words ≡ Some (codes "mend", rows)) × IsFlag (codes "patch") rows patch
 
 -- the value of an option that may be left out: none, or a number
 abbrev pub IsNumberIfGiven : (option : Text) → List Row → Option ℕ → Type 0
@@ -164,14 +177,21 @@ AsksRun words order = (faults words ≡ []) × (rows : List Row) × (named words
 abbrev pub IsCheckOf : List Row → Job → Type 0
 IsCheckOf rows (Legs at) = ⊥
 IsCheckOf rows (Check cert window) = HasCheckValues rows (option_map (λ name. name.now) cert) window
-IsCheckOf rows Mend = ⊥
+IsCheckOf rows (Mend patch) = ⊥
 IsCheckOf rows (Run options) = ⊥
+
+-- the job of `mend` with these values
+abbrev pub IsMendOf : List Row → Job → Type 0
+IsMendOf rows (Legs at) = ⊥
+IsMendOf rows (Check cert window) = ⊥
+IsMendOf rows (Mend patch) = IsFlag (codes "patch") rows patch
+IsMendOf rows (Run options) = ⊥
 
 -- the job of `run` with these values
 abbrev pub IsRunOf : List Row → Job → Type 0
 IsRunOf rows (Legs at) = ⊥
 IsRunOf rows (Check cert window) = ⊥
-IsRunOf rows Mend = ⊥
+IsRunOf rows (Mend patch) = ⊥
 IsRunOf rows (Run options) = HasRunValues rows (order_of options)
 
 -- the option is given a number of this range
@@ -196,7 +216,7 @@ pub record CanRun (rows : List Row) : Type 0 where
 abbrev pub IsJobOf : List Text → Job → Type 0
 IsJobOf words (Check cert window) = AsksCheck words (option_map (λ name. name.now) cert) window
 IsJobOf words (Legs at) = (faults words ≡ []) × (rows : List Row) × (named words ≡ Some (codes "legs", rows)) × IsNumberOf (codes "at") rows at.0
-IsJobOf words Mend = AsksMend words
+IsJobOf words (Mend patch) = AsksMend words patch
 IsJobOf words (Run options) = AsksRun words (order_of options)
 
 -- why words ask for no job: clap finds a fault with them that isn't the wish for help or for the

@@ -5,20 +5,24 @@ ghost use Rattle.std.specs.Prelude.{◌≡◌, codes, false, option_map, IfOk, I
 ghost use Rattle.clap.specs.Words.{Text, app_of, found_of, kind_of, rows_of, rule_of};
 ghost use Rattle.clap.specs.declared.builder.command.Command.TheViews.{out-Command as fields_of};
 ghost use Rattle.mcv_words.specs.Ranges.{window_limit};
-ghost use Rattle.mcv_words.specs.Words.{at_rule, cert_rule, check_app, client_timeout_rule, legs_app, listen_rule, mcv_app, mend_app, proxies_rule, run_app, server_timeout_rule, sessions_rule, spool_rule, window_rule, line_fault_number, CanRun, IsCheckOf, IsFaultOfKind, IsGivenIn, IsJobOf, IsLineFault, IsNumberIfGiven, IsRunOf, MayBeGivenIn};
+ghost use Rattle.mcv_words.specs.Words.{at_rule, cert_rule, check_app, client_timeout_rule, flag_rule, legs_app, listen_rule, mcv_app, mend_app, proxies_rule, run_app, server_timeout_rule, sessions_rule, spool_rule, window_rule, line_fault_number, CanRun, IsCheckOf, IsFaultOfKind, IsGivenIn, IsJobOf, IsLineFault, IsMendOf, IsNumberIfGiven, IsRunOf, MayBeGivenIn};
 ghost use Rattle.mcv_words.specs.declared.words.LineFault.TheVariants.{Memory as out_of_memory};
 
 use crate::help::{
     ABOUT, AT, CERT, CHECK_ABOUT, CHECK_FORM, CLIENT_TIMEOUT, EXAMPLE, LEGS_ABOUT, LEGS_FORM,
+<<<<<<< HEAD
     LISTEN, MEND_ABOUT, MEND_FORM, PROXIES, RUN_ABOUT, RUN_FORM, SERVER_TIMEOUT, SESSIONS, SPOOL,
     WINDOW,
+=======
+    LISTEN, MEND_ABOUT, MEND_FORM, PATCH, PROXIES, RUN_ABOUT, RUN_FORM, SERVER_TIMEOUT, SESSIONS, SPOOL, WINDOW,
+>>>>>>> parent of c2eabcf1 (The command mend without --patch, which is on a branch of its own)
 };
 use crate::options::{
     ClientTimeout, InRange, Proxies, RunOptions, ServerTimeout, Sessions, Settings, Window,
 };
 use clap::builder::ValueParser;
 use clap::error::ErrorKind;
-use clap::{Arg, ArgMatches, Command, Error as ClapError, value_parser};
+use clap::{Arg, ArgAction, ArgMatches, Command, Error as ClapError, value_parser};
 use mcv_base::Moment;
 use std::alloc::{AllocError, Global};
 use thiserror::Error;
@@ -35,8 +39,10 @@ pub enum Job<'a> {
         cert: Option<&'a str>,
         window: Window,
     },
-    /// To mend a configuration.
-    Mend,
+    /// To mend a configuration, or to write the patch that mends it.
+    Mend {
+        patch: bool,
+    },
     /// To serve clients.
     Run(RunOptions<'a>),
 }
@@ -135,14 +141,26 @@ fn check_command<'a>(alloc: Global) -> Result<Command<'a>, AllocError>
         .arg(window_option(alloc))
 }
 
-fn mend_command<'a>(alloc: Global) -> Command<'a>
-    ensures app { app_of result ≡ mend_app }
-    ensures local { (fields_of result).has_globals ≡ false }
+/// A flag by its name.
+fn flag<'a>(alloc: Global, name: &'static str, help: &'static str) -> Arg<'a>
+    ensures rule { rule_of result ≡ flag_rule name.now }
+    ensures local { result.global ≡ false }
+{
+    Arg::new(alloc, name)
+        .long(name)
+        .action(ArgAction::SetTrue)
+        .help(help)
+}
+
+fn mend_command<'a>(alloc: Global) -> Result<Command<'a>, AllocError>
+    ensures app { IfOk result (λ c. app_of c ≡ mend_app) }
+    ensures local { IfOk result (λ c. (fields_of c).has_globals ≡ false) }
 {
     Command::new(alloc, "mend")
         .about(MEND_ABOUT)
-        .override_usage("mcv mend < FILE")
+        .override_usage("mcv mend [--patch] < FILE")
         .after_help(MEND_FORM)
+        .arg(flag(alloc, "patch", PATCH))
 }
 
 fn listen_option<'a>(alloc: Global) -> Arg<'a>
@@ -234,6 +252,7 @@ fn command<'a>(alloc: Global) -> Result<Command<'a>, AllocError>
 {
     let check = check_command(alloc)?;
     let legs = legs_command(alloc)?;
+    let mend = mend_command(alloc)?;
     let run = run_command(alloc)?;
     Command::new(alloc, "mcv")
         .version("1")
@@ -243,7 +262,7 @@ fn command<'a>(alloc: Global) -> Result<Command<'a>, AllocError>
         .bin_name("mcv")?
         .subcommand(check)?
         .subcommand(legs)?
-        .subcommand(mend_command(alloc))?
+        .subcommand(mend)?
         .subcommand(run)
 }
 
@@ -288,6 +307,14 @@ fn check_job<'a>(found: &ArgMatches<'a>) -> Result<Job<'a>, LineFault>
         return Err(LineFault::BadLine);
     };
     Ok(Job::Check { cert, window })
+}
+
+/// The job of `mend`, by what clap found for its options.
+fn mend_job<'a>(found: &ArgMatches<'a>) -> Job<'a>
+    ensures { IsMendOf (rows_of (found_of found.now)) result }
+{
+    let patch = found.get_flag("patch");
+    Job::Mend { patch }
 }
 
 /// The job of `run`, by what clap found for its options.
@@ -339,8 +366,8 @@ pub fn read_words<'a>(alloc: Global, words: &'a [&'a str]) -> Result<Job<'a>, Li
         };
         return Ok(job);
     }
-    if let Some(_found) = matches.subcommand_matches("mend") {
-        return Ok(Job::Mend);
+    if let Some(mending) = matches.subcommand_matches("mend") {
+        return Ok(mend_job(mending));
     }
     if let Some(found) = matches.subcommand_matches("run") {
         let Ok(job) = run_job(found) else {

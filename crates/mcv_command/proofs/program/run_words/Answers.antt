@@ -59,7 +59,7 @@ returns-in-Ok-Check-None-default-clause-stop g c =
 pub returns-in-Ok-Mend-clause-done : goal.returns-in-Ok-Mend-clause-done
 returns-in-Ok-Mend-clause-done g c =
     let asks = rw c.in-Ok-Mend.field-0-is at c.in-Ok-Mend.ensures.job in
-    IfOk-weaker c.mend.result _ _ (λ ending mended. inr (inr (inr (inl (asks, mended))))) c.mend.ensures.done
+    IfOk-weaker c.mend.result _ _ (λ ending mended. inr (inr (inr (inl (c.in-Ok-Mend.patch, asks, mended))))) c.mend.ensures.done
 
 pub returns-in-Ok-Mend-clause-stop : goal.returns-in-Ok-Mend-clause-stop
 returns-in-Ok-Mend-clause-stop g c =
@@ -67,7 +67,7 @@ returns-in-Ok-Mend-clause-stop g c =
     let held = g.F.NamedFiles.held c.args.files.now in
     let known = g.R.Read.remaining c.args.reader.now in
     let asks = rw c.in-Ok-Mend.field-0-is at c.in-Ok-Mend.ensures.job in
-    IfErr-weaker c.mend.result _ _ (λ stop holds. mending_stop words held known stop asks holds) c.mend.ensures.stop
+    IfErr-weaker c.mend.result _ _ (λ stop holds. mending_stop words held known c.in-Ok-Mend.patch stop asks holds) c.mend.ensures.stop
 
 pub returns-in-Ok-Run-clause-done : goal.returns-in-Ok-Run-clause-done
 returns-in-Ok-Run-clause-done g c =
