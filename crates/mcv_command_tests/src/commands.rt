@@ -532,8 +532,7 @@ const DEEPEST: &str =
 const WARM_UP_PATCH: &str =
     "[{\"op\":\"replace\",\"path\":\"/route\",\"value\":{\"default_policy\":{\"cold\":\"PoolRoute|A\",\"type\":\"WarmUpRoute\",\"warm\":\"PoolRoute|B\"},\"operation_policies\":{\"delete\":{\"children\":[\"PoolRoute|A\",\"PoolRoute|B\"],\"type\":\"AllSyncRoute\"}},\"type\":\"OperationSelectorRoute\"}}]\n";
 
-const TOO_DEEP: &str =
-    "mcv: mended configuration 7 at /route/operation_policies/delete/children/0";
+const TOO_DEEP: &str = "mcv: mended configuration 7 at /route/operation_policies/delete/children/0";
 
 #[test]
 fn configurations_are_mended(rt: HostRuntime) {

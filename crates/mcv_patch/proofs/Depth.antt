@@ -22,6 +22,7 @@ member_within k (member l x ms) d m is within = go (slice_cmp nat_cmp k l) is
   where
     more : get_member k ms ≡ Some d → depth d ≤ m
     more there = member_within k ms d m there (second_within (depth x) (members_depth ms) m within)
+
     go : (o : Ordering) → match_ordering o (get_member k ms) (Some x) (get_member k ms) ≡ Some d → depth d ≤ m
     go Less there = more there
     go Equal there = subst (λ (y : Data). depth y ≤ m) (inside x d there) (first_within (depth x) (members_depth ms) m within)
@@ -33,8 +34,10 @@ put_within k d (member l x ms) m deep within = go (slice_cmp nat_cmp k l)
   where
     left : depth x ≤ m
     left = first_within (depth x) (members_depth ms) m within
+
     rest : members_depth ms ≤ m
     rest = second_within (depth x) (members_depth ms) m within
+
     go : (o : Ordering) → members_depth (match_ordering o (member k d (member l x ms)) (member l d ms) (member l x (put k d ms))) ≤ m
     go Less = max-le deep within
     go Equal = max-le deep rest
