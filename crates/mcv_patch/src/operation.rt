@@ -38,7 +38,7 @@ pub fn patch_text(alloc: Global, operation: Option<&Operation<'_>>) -> Result<Ve
 
 /// A value as a line.
 fn line_of(alloc: Global, value: &Value) -> Result<Vec<u8>, AllocError>
-    ensures { IfOk result (IsLineOf (view value.now)) }
+    ensures { IfOk result (λ text. IsLineOf (view value.now) text.items) }
 {
     let mut text = value.to_vec(alloc)?;
     text.push(b'\n')?;
