@@ -25,6 +25,7 @@ inside_same (key k) f g same (object ms) = go (get_member k ms)
   where
     put_back : Data → Data
     put_back x = object (put k x ms)
+
     go : (o : Option Data) → option_and_then (λ c. option_map put_back (f c)) o ≡ option_and_then (λ c. option_map put_back (g c)) o
     go None = refl
     go (Some c) = ap (option_map put_back) (same c)
@@ -36,6 +37,7 @@ inside_same (index i) f g same (array ds) = go (get_item i ds)
   where
     put_back : Data → Data
     put_back x = array (with_item i x ds)
+
     go : (o : Option Data) → option_and_then (λ c. option_map put_back (f c)) o ≡ option_and_then (λ c. option_map put_back (g c)) o
     go None = refl
     go (Some c) = ap (option_map put_back) (same c)

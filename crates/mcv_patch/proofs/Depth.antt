@@ -18,27 +18,23 @@ second_within a b m within = omega (arith, le-max_right a b)
 
 pub member_within : (k : List ℕ) (ms : Members) (d : Data) (m : ℕ) → get_member k ms ≡ Some d → members_depth ms ≤ m → depth d ≤ m
 member_within k no_members d m is within = absurd (cc)
-member_within k (member l x ms) d m is within = go (slice_cmp nat_cmp k l) is
+member_within k (member l x ms) d m is within =
+    go (slice_cmp nat_cmp k l) (λ there. member_within k ms d m there (second_within (depth x) (members_depth ms) m within)) is
   where
-    more : get_member k ms ≡ Some d → depth d ≤ m
-    more there = member_within k ms d m there (second_within (depth x) (members_depth ms) m within)
-    go : (o : Ordering) → match_ordering o (get_member k ms) (Some x) (get_member k ms) ≡ Some d → depth d ≤ m
-    go Less there = more there
-    go Equal there = subst (λ (y : Data). depth y ≤ m) (inside x d there) (first_within (depth x) (members_depth ms) m within)
-    go Greater there = more there
+    go : (o : Ordering) → (get_member k ms ≡ Some d → depth d ≤ m) → match_ordering o (get_member k ms) (Some x) (get_member k ms) ≡ Some d → depth d ≤ m
+    go Less more there = more there
+    go Equal more there = subst (λ (y : Data). depth y ≤ m) (inside x d there) (first_within (depth x) (members_depth ms) m within)
+    go Greater more there = more there
 
 pub put_within : (k : List ℕ) (d : Data) (ms : Members) (m : ℕ) → depth d ≤ m → members_depth ms ≤ m → members_depth (put k d ms) ≤ m
 put_within k d no_members m deep within = max-le deep within
-put_within k d (member l x ms) m deep within = go (slice_cmp nat_cmp k l)
+put_within k d (member l x ms) m deep within =
+    go (slice_cmp nat_cmp k l) (put_within k d ms m deep (second_within (depth x) (members_depth ms) m within))
   where
-    left : depth x ≤ m
-    left = first_within (depth x) (members_depth ms) m within
-    rest : members_depth ms ≤ m
-    rest = second_within (depth x) (members_depth ms) m within
-    go : (o : Ordering) → members_depth (match_ordering o (member k d (member l x ms)) (member l d ms) (member l x (put k d ms))) ≤ m
-    go Less = max-le deep within
-    go Equal = max-le deep rest
-    go Greater = max-le left (put_within k d ms m deep rest)
+    go : (o : Ordering) → members_depth (put k d ms) ≤ m → members_depth (match_ordering o (member k d (member l x ms)) (member l d ms) (member l x (put k d ms))) ≤ m
+    go Less more = max-le deep within
+    go Equal more = max-le deep (second_within (depth x) (members_depth ms) m within)
+    go Greater more = max-le (first_within (depth x) (members_depth ms) m within) more
 
 pub item_within : (n : ℕ) (ds : Items) (d : Data) (m : ℕ) → get_item n ds ≡ Some d → items_depth ds ≤ m → depth d ≤ m
 item_within n no_items d m is within = absurd (cc)

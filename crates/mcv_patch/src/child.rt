@@ -33,7 +33,7 @@ pub(crate) enum Child<'a> {
 /// Where a value differs.
 pub(crate) fn child_of<'a>(alloc: Global, pair: Pair<'a>) -> Result<Child<'a>, AllocError>
     requires { AreShallow pair }
-    ensures { IfOk result (IsChild pair) }
+    ensures { IfOk result (IsChild pair.entry) }
 {
     if let Some(members) = pair.new.as_object() {
         return member_of(alloc, pair, members);
@@ -51,7 +51,7 @@ fn member_of<'a>(
     members: &'a Map<String, Value>,
 ) -> Result<Child<'a>, AllocError>
     requires { AreShallow pair }
-    ensures { IfOk result (IsChild pair) }
+    ensures { IfOk result (IsChild pair.entry) }
 {
     let Some(key) = other_key(alloc, pair.old, members)? else {
         return Ok(Child::Many);
@@ -107,7 +107,7 @@ fn item_of<'a>(
     items: &'a Vec<Value>,
 ) -> Result<Child<'a>, AllocError>
     requires { AreShallow pair }
-    ensures { IfOk result (IsChild pair) }
+    ensures { IfOk result (IsChild pair.entry) }
 {
     let Some(number) = other_number(alloc, pair.old, items)? else {
         return Ok(Child::Many);

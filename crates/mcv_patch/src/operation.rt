@@ -25,10 +25,7 @@ pub struct Operation<'a> {
 }
 
 /// The text of the patch of one operation, or of none: a line.
-pub fn patch_text(
-    alloc: Global,
-    operation: Option<&Operation<'_>>,
-) -> Result<Vec<u8>, AllocError>
+pub fn patch_text(alloc: Global, operation: Option<&Operation<'_>>) -> Result<Vec<u8>, AllocError>
     ensures none { operation.entry ≡ None → IfOk result (λ text. IsPatchText [] text.items) }
     ensures one { (o : Operation) → option_map (λ x. x.now) operation.entry ≡ Some o → IfOk result (λ text. IsPatchText (change_of o ∷ []) text.items) }
 {
@@ -41,7 +38,7 @@ pub fn patch_text(
 
 /// A value as a line.
 fn line_of(alloc: Global, value: &Value) -> Result<Vec<u8>, AllocError>
-    ensures { IfOk result (IsLineOf (view value.now)) }
+    ensures { IfOk result (λ text. IsLineOf (view value.now) text.items) }
 {
     let mut text = value.to_vec(alloc)?;
     text.push(b'\n')?;
@@ -52,7 +49,11 @@ fn line_of(alloc: Global, value: &Value) -> Result<Vec<u8>, AllocError>
 fn operation_value(alloc: Global, operation: &Operation<'_>) -> Result<Value, AllocError>
     ensures { IfOk result (λ value. view value ≡ change_data (change_of operation.now)) }
 {
-    let name = if operation.added.is_some() { "add" } else { "replace" };
+    let name = if operation.added.is_some() {
+        "add"
+    } else {
+        "replace"
+    };
     let path = operation_pointer(alloc, operation)?;
     json!(in alloc; {"op": name, "path": path.as_str(), "value": operation.value})
 }

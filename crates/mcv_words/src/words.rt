@@ -10,12 +10,8 @@ ghost use Rattle.mcv_words.specs.declared.words.LineFault.TheVariants.{Memory as
 
 use crate::help::{
     ABOUT, AT, CERT, CHECK_ABOUT, CHECK_FORM, CLIENT_TIMEOUT, EXAMPLE, LEGS_ABOUT, LEGS_FORM,
-<<<<<<< HEAD
-    LISTEN, MEND_ABOUT, MEND_FORM, PROXIES, RUN_ABOUT, RUN_FORM, SERVER_TIMEOUT, SESSIONS, SPOOL,
-    WINDOW,
-=======
-    LISTEN, MEND_ABOUT, MEND_FORM, PATCH, PROXIES, RUN_ABOUT, RUN_FORM, SERVER_TIMEOUT, SESSIONS, SPOOL, WINDOW,
->>>>>>> parent of c2eabcf1 (The command mend without --patch, which is on a branch of its own)
+    LISTEN, MEND_ABOUT, MEND_FORM, PATCH, PROXIES, RUN_ABOUT, RUN_FORM, SERVER_TIMEOUT, SESSIONS,
+    SPOOL, WINDOW,
 };
 use crate::options::{
     ClientTimeout, InRange, Proxies, RunOptions, ServerTimeout, Sessions, Settings, Window,
