@@ -1,9 +1,10 @@
 //! The one child in which a value differs from another.
 
-ghost use Rattle.std.specs.Prelude.{◌≡◌, ◌≤◌, IfOk, IsTrue};
+ghost use Rattle.std.specs.Prelude.{◌≡◌, ◌≤◌, IfOk, IsTrue, Some};
 ghost use Rattle.serde_json.specs.Data.{Data, Items, Members, array, depth, object, put};
 ghost use Rattle.serde_json.specs.Read.{max_depth};
-ghost use Rattle.serde_json.specs.View.{view};
+ghost use Rattle.serde_json.specs.Find.{at, get};
+ghost use Rattle.serde_json.specs.View.{items_view, view};
 ghost use Rattle.mcv_patch.specs.Patch.{with_item};
 ghost use Rattle.mcv_patch.specs.Child.{AreShallow, IsChild};
 
@@ -11,6 +12,7 @@ use crate::operation::Step;
 use crate::same::have_one_text;
 use serde_json::{Map, Value, put};
 use std::alloc::{AllocError, Global};
+use std::mem;
 
 /// A value, and what it has become.
 #[derive(Clone, Copy)]
@@ -38,10 +40,10 @@ pub(crate) fn child_of<'a>(alloc: Global, pair: Pair<'a>) -> Result<Child<'a>, A
     if let Some(members) = pair.new.as_object() {
         return member_of(alloc, pair, members);
     }
-    match pair.new.as_array() {
-        Some(items) => item_of(alloc, pair, items),
-        None => Ok(Child::Many),
+    if let Some(items) = pair.new.as_array() {
+        return item_of(alloc, pair, items);
     }
+    Ok(Child::Many)
 }
 
 /// The same of an object that has become these members.
@@ -53,20 +55,39 @@ fn member_of<'a>(
     requires { AreShallow pair }
     ensures { IfOk result (IsChild pair.entry) }
 {
+    if !pair.old.is_object() {
+        return Ok(Child::Many);
+    }
     let Some(key) = other_key(alloc, pair.old, members)? else {
         return Ok(Child::Many);
     };
     let Some(value) = pair.new.get(key) else {
         return Ok(Child::Many);
     };
-    let changed = with_member(alloc, pair.old, key, value)?;
-    if !have_one_text(alloc, &changed, pair.new)? {
+    if !is_put(alloc, pair.old, pair.new, key, value)? {
         return Ok(Child::Many);
     }
     match pair.old.get(key) {
         Some(old) => Ok(Child::Behind(Step::Key(key), Pair { old, new: value })),
         None => Ok(Child::Added(key, value)),
     }
+}
+
+/// Whether an object has become the new value by this value at a key.
+fn is_put(
+    alloc: Global,
+    old: &Value,
+    new: &Value,
+    key: &str,
+    value: &Value,
+) -> Result<bool, AllocError>
+    requires shallow { depth (view old.now) ≤ max_depth }
+    requires also { depth (view new.now) ≤ max_depth }
+    requires value { get key.now (view new.now) ≡ Some (view value.now) }
+    ensures { IfOk result (λ is. IsTrue is → (ms : Members) → view old.now ≡ object ms → view new.now ≡ object (put key.now (view value.now) ms)) }
+{
+    let changed = with_member(alloc, old, key, value)?;
+    have_one_text(alloc, &changed, new)
 }
 
 /// The first key whose member isn't the same in the old value.
@@ -118,11 +139,27 @@ fn item_of<'a>(
     let Some(new) = pair.new.get(number) else {
         return Ok(Child::Many);
     };
-    let changed = with_item(pair.old, number, new)?;
-    if !have_one_text(alloc, &changed, pair.new)? {
+    if !is_set(alloc, pair.old, pair.new, number, new)? {
         return Ok(Child::Many);
     }
     Ok(Child::Behind(Step::Index(number), Pair { old, new }))
+}
+
+/// Whether a list has become the new value by this value at a number.
+fn is_set(
+    alloc: Global,
+    old: &Value,
+    new: &Value,
+    number: usize,
+    value: &Value,
+) -> Result<bool, AllocError>
+    requires shallow { depth (view old.now) ≤ max_depth }
+    requires also { depth (view new.now) ≤ max_depth }
+    requires value { at number (view new.now) ≡ Some (view value.now) }
+    ensures { IfOk result (λ is. IsTrue is → (ds : Items) → view old.now ≡ array ds → view new.now ≡ array (with_item number (view value.now) ds)) }
+{
+    let changed = with_item(old, number, value)?;
+    have_one_text(alloc, &changed, new)
 }
 
 /// The number of the first item that isn't the same in the old value.
@@ -149,11 +186,21 @@ fn with_item(old: &Value, number: usize, value: &Value) -> Result<Value, AllocEr
     match old.clone()? {
         Value::Array(items) => {
             let mut items = items;
-            if number < items.len() {
-                items[number] = value.clone()?;
-            }
+            let value = value.clone()?;
+            put_item(&mut items, number, value);
             Ok(Value::Array(items))
         }
         other => Ok(other),
     }
+}
+
+/// Puts a value at a number, where the list has an item.
+fn put_item(items: &mut Vec<Value>, number: usize, value: Value)
+    ensures { items_view items.new.items ≡ with_item number (view value) (items_view items.old.items) }
+{
+    if items.len() <= number {
+        drop(value);
+        return;
+    }
+    drop(mem::replace(&mut items[number], value));
 }
