@@ -1,8 +1,11 @@
 -- What a change makes of a value is what it makes of the value behind a step, in its place.
 use Rattle.std.proofs.Common.{◌≡◌, ◌∙◌, ℕ, List, [], ◌∷◌, ◌++◌, Option, Some, None, ap, option_and_then, option_map, refl, subst, sym}
+use Rattle.std.proofs.lemmas.List.{map-append}
 use Rattle.serde_json.specs.Data.{Data, Items, Members, array, boolean, null, number, object, put, string}
 use Rattle.serde_json.specs.Find.{get_item, get_member}
 use Rattle.mcv_patch.specs.Child.{DiffersBehind}
+use Rattle.mcv_patch.specs.Operations.{path_of, step_of}
+use Rattle.mcv_patch.specs.declared.operation.Step as code
 use Rattle.mcv_patch.specs.Patch.{Step, at_path, index, inside, key, with_item}
 
 -- where a function makes `after` of `before`, the function at the step makes the new value of the old
@@ -54,3 +57,10 @@ pub leads_on : (path : List Step) (s : Step) (old new here there before after : 
     → LeadsTo (path ++ s ∷ []) old new before after
 leads_on path s old new here there before after leads differs f made =
     one_more path s f old ∙ leads (inside s f) (behind s f here there before after differs made)
+
+-- the same of the code's path, grown by a step
+pub step_on : (path grown : List code.Step) (s : code.Step) (old new here there before after : Data) → grown ≡ path ++ s ∷ [] → LeadsTo (path_of path) old new here there
+    → DiffersBehind (step_of s) here there before after → LeadsTo (path_of grown) old new before after
+step_on path grown s old new here there before after grows leads differs =
+    let is : path_of grown ≡ path_of path ++ step_of s ∷ [] = ap path_of grows ∙ map-append step_of path (s ∷ []) in
+    subst (λ (steps : List Step). LeadsTo steps old new before after) (sym is) (leads_on (path_of path) (step_of s) old new here there before after leads differs)
