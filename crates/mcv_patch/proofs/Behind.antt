@@ -1,7 +1,7 @@
 -- What a change makes of a value is what it makes of the value behind a step, in its place.
-use Rattle.std.proofs.Common.{◌≡◌, ◌∙◌, ℕ, List, [], ◌∷◌, ◌++◌, Option, Some, None, ap, option_and_then, option_map, refl, subst, sym}
+use Rattle.std.proofs.Common.{◌≡◌, ◌∙◌, List, [], ◌∷◌, ◌++◌, Option, Some, None, ap, option_and_then, option_map, refl, subst, sym}
 use Rattle.std.proofs.lemmas.List.{map-append}
-use Rattle.serde_json.specs.Data.{Data, Items, Members, array, boolean, null, number, object, put, string}
+use Rattle.serde_json.specs.Data.{Data, array, boolean, null, number, object, put, string}
 use Rattle.serde_json.specs.Find.{get_item, get_member}
 use Rattle.mcv_patch.specs.Child.{DiffersBehind}
 use Rattle.mcv_patch.specs.Operations.{path_of, step_of}

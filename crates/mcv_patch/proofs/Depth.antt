@@ -1,9 +1,9 @@
 -- How deep what is in objects and lists nests, and what is put into them.
-use Rattle.std.proofs.Common.{◌≡◌, ◌≤◌, ℕ, zero, suc, List, Ordering, Less, Equal, Greater, Option, Some, None, arith, max, nat_cmp, refl, subst, sym}
+use Rattle.std.proofs.Common.{◌≡◌, ◌≤◌, ℕ, zero, suc, List, Ordering, Less, Equal, Greater, Some, arith, max, nat_cmp, subst}
 use Rattle.std.proofs.Math.Nat.{le-max_left, le-max_right, max-le}
 use Rattle.std.specs.Cmp.Lexicographic.{slice_cmp}
 use Rattle.std.specs.Ordering.{match_ordering}
-use Rattle.serde_json.specs.Data.{Data, Items, Members, array, depth, item, items_depth, member, members_depth, no_items, no_members, object, put}
+use Rattle.serde_json.specs.Data.{Data, Items, Members, depth, item, items_depth, member, members_depth, no_items, no_members, put}
 use Rattle.serde_json.specs.Find.{get_item, get_member}
 use Rattle.mcv_patch.specs.Patch.{with_item}
 

@@ -1,7 +1,7 @@
 -- Where an object or a list is another one with one value put into it.
-use Rattle.std.proofs.Common.{◌≡◌, ◌≤◌, ◌-◌, ℕ, zero, suc, List, Bool, true, Option, Some, None, arith, ap, is_some, map, length, refl, set, subst, sym, ◌∙◌, [], ◌∷◌}
+use Rattle.std.proofs.Common.{◌≡◌, ◌≤◌, ◌-◌, ℕ, zero, suc, List, true, Some, arith, ap, is_some, map, length, refl, set, subst, sym, ◌∙◌, [], ◌∷◌}
 use Rattle.std.proofs.lemmas.List.{length-map, map-set}
-use Rattle.serde_json.specs.Data.{Data, Items, Members, array, boolean, depth, item, items_depth, members_depth, no_items, null, number, object, put, string}
+use Rattle.serde_json.specs.Data.{Data, Items, Members, array, boolean, depth, item, items_depth, members_depth, null, number, object, put, string}
 use Rattle.serde_json.specs.Find.{as_object, at, get, get_item, get_member}
 use Rattle.serde_json.specs.View.{items_of, items_view, view}
 use Rattle.serde_json.specs.declared.value.Value.{Value}

@@ -1,5 +1,5 @@
 -- Where two values differ. Only private contracts cite this.
-use Rattle.std.specs.Prelude.{◌≡◌, ◌≤◌, ⊤, ℕ, Some}
+use Rattle.std.specs.Prelude.{◌≡◌, ◌≤◌, ⊤, Some}
 use Rattle.serde_json.specs.Data.{Data, Items, Members, array, depth, object, put}
 use Rattle.serde_json.specs.Find.{get_item, get_member}
 use Rattle.serde_json.specs.Read.{max_depth}

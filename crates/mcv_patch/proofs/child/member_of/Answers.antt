@@ -1,4 +1,4 @@
-use Rattle.std.proofs.Common.{◌≡◌, ◌∙◌, sym}
+use Rattle.std.proofs.Common.{◌∙◌, sym}
 use Rattle.serde_json.specs.View.{view}
 use Rattle.mcv_patch.proofs.Put.{added_member, behind_member}
 use Rattle.mcv_patch.proofs.child.member_of.Goals as goal

@@ -1,4 +1,4 @@
-use Rattle.std.proofs.Common.{◌≡◌, ◌<◌, ◌+◌, ◌++◌, ℕ, List, drop, drop-cons, add-one, get_or, length, refl, sym, ap}
+use Rattle.std.proofs.Common.{◌≡◌, ◌<◌, ◌+◌, ◌++◌, ℕ, List, drop, drop-cons, add-one, get_or, length, refl}
 use Rattle.mcv_patch.specs.Operations.{path_of, step_of}
 use Rattle.mcv_patch.specs.Pointer.{pointer, pointer_step}
 use Rattle.mcv_patch.specs.declared.operation.Step.{Step}
