@@ -12,15 +12,19 @@ use Rattle.mcv_patch.specs.Text.{IsPatchText}
 abbrev pub IsDocument : (text : List ℕ) → Data → Type 0
 IsDocument text d = (json : List ℕ) × Strips text json × (read json ≡ Some d)
 
--- the text is a patch that makes of the value of one text that of another
-pub record IsPatchBetween (input mended text : List ℕ) : Type 0 where
+-- the text is a patch that makes one value of another
+pub record IsPatchFrom (old new : Data) (text : List ℕ) : Type 0 where
   pub changes : List Change
   pub written : IsPatchText changes text
+  pub makes : patched_by changes old ≡ Some new
+
+-- the text is a patch that makes the value of one text of that of another
+pub record IsPatchBetween (input mended text : List ℕ) : Type 0 where
   pub old : Data
   pub new : Data
   pub reads : IsDocument input old
   pub mends : IsDocument mended new
-  pub patches : patched_by changes old ≡ Some new
+  pub patches : IsPatchFrom old new text
 
 -- the text is a patch that makes the mended input of the input
 abbrev pub IsPatchOn : (input : List ℕ) → Mending → (text : List ℕ) → Type 0
