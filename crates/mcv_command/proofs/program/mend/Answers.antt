@@ -1,7 +1,3 @@
-use Rattle.std.proofs.Common.{Bool, List, Option, ℕ, subst, sym}
-use Rattle.std.specs.Prelude.{IfOk}
-use Rattle.clap.specs.Words.{Text}
-use Rattle.mcv_command.specs.Program.{IsMendedAs}
 use Rattle.mcv_command.proofs.program.mend.Goals as goal
 
 pub returns-then-patch-clause-done : goal.returns-then-patch-clause-done
