@@ -1,2 +1,2 @@
 pub mod WholeInput
-pub mod Unchanged
+pub mod Patches

@@ -1,10 +1,11 @@
 -- What is written of a configuration as a patch (own).
-use Rattle.std.specs.Prelude.{◌≡◌, ℕ, List, Some}
+use Rattle.std.specs.Prelude.{◌≡◌, ℕ, List, [], Some}
 use Rattle.serde_json.specs.Data.{Data}
 use Rattle.serde_json.specs.Read.{read}
 use Rattle.mcv_comments.specs.Comments.{Strips}
 use Rattle.mcv_mend.specs.Mending.{IsMendingOn}
 use Rattle.mcv_mend.specs.declared.fault.Mending.{Mending}
+use Rattle.mcv_mend.specs.declared.fault.Mending.TheVariants.{Mended, Unchanged}
 use Rattle.mcv_patch.specs.Patch.{Change, patched_by}
 use Rattle.mcv_patch.specs.Text.{IsPatchText}
 
@@ -26,6 +27,7 @@ pub record IsPatchBetween (input mended text : List ℕ) : Type 0 where
   pub mends : IsDocument mended new
   pub patches : IsPatchFrom old new text
 
--- the text is a patch that makes the mended input of the input
+-- the empty patch of a covered input; else a patch that makes the mended input of the input
 abbrev pub IsPatchOn : (input : List ℕ) → Mending → (text : List ℕ) → Type 0
-IsPatchOn input mending text = (mended : List ℕ) × IsMendingOn input mending mended × IsPatchBetween input mended text
+IsPatchOn input Unchanged text = IsMendingOn input Unchanged input × IsPatchText [] text
+IsPatchOn input Mended text = (mended : List ℕ) × IsMendingOn input Mended mended × IsPatchBetween input mended text

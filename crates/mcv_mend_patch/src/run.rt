@@ -60,17 +60,9 @@ fn patch_of(alloc: Global, input: &[u8], output: &Output) -> Result<Vec<u8>, All
     ensures { IfOk result (λ text. IsPatchOn input.now output.now.mending text.items) }
 {
     match output.mending {
-        Mending::Unchanged => empty_patch(alloc, input),
+        Mending::Unchanged => patch_text(alloc, None),
         Mending::Mended => patch_between(alloc, input, output.text.as_slice()),
     }
-}
-
-/// The patch of an input that stays as it is.
-fn empty_patch(alloc: Global, input: &[u8]) -> Result<Vec<u8>, AllocError>
-    ensures { IfOk result (λ text. IsPatchBetween input.now input.now text.items) }
-{
-    let _value = read_document(alloc, input)?;
-    patch_text(alloc, None)
 }
 
 /// The patch that makes the mended text of the input.
