@@ -1,0 +1,4 @@
+pub mod Depth
+pub mod Behind
+pub mod Pieces
+pub mod Put
