@@ -1,17 +1,16 @@
 -- What is written of a configuration as a patch (own).
 use Rattle.std.specs.Prelude.{◌≡◌, ℕ, List, [], Some}
 use Rattle.serde_json.specs.Data.{Data}
-use Rattle.serde_json.specs.Read.{read}
-use Rattle.mcv_comments.specs.Comments.{Strips}
 use Rattle.mcv_mend.specs.Mending.{IsMendingOn}
 use Rattle.mcv_mend.specs.declared.fault.Mending.{Mending}
 use Rattle.mcv_mend.specs.declared.fault.Mending.TheVariants.{Mended, Unchanged}
+use Rattle.mcv_places.specs.Document.{IsDocument}
 use Rattle.mcv_patch.specs.Patch.{Change, patched_by}
 use Rattle.mcv_patch.specs.Text.{IsPatchText}
 
--- the text without its comments is this value
-abbrev pub IsDocument : (text : List ℕ) → Data → Type 0
-IsDocument text d = (json : List ℕ) × Strips text json × (read json ≡ Some d)
+-- the text is a JSON value with comments
+abbrev pub HasDocument : (text : List ℕ) → Type 0
+HasDocument text = (d : Data) × IsDocument text d
 
 -- the text is a patch that makes one value of another
 pub record IsPatchFrom (old new : Data) (text : List ℕ) : Type 0 where

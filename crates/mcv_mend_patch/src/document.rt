@@ -1,33 +1,24 @@
 //! The value of a configuration's text.
 
-ghost use Rattle.std.specs.Prelude.{◌≡◌, ◌≤◌, IfOk, Some};
+ghost use Rattle.std.specs.Prelude.{◌≤◌, IfOk};
 ghost use Rattle.serde_json.specs.Data.{depth};
-ghost use Rattle.serde_json.specs.Read.{max_depth, read};
+ghost use Rattle.serde_json.specs.Read.{max_depth};
 ghost use Rattle.serde_json.specs.View.{view};
-ghost use Rattle.mcv_mend_patch.specs.Patching.{IsDocument};
+ghost use Rattle.mcv_places.specs.Document.{IsDocument};
+ghost use Rattle.mcv_mend_patch.specs.Patching.{HasDocument};
 
-use mcv_comments::strip_comments;
+use mcv_places::read_document;
 use serde_json::Value;
 use std::alloc::{AllocError, Global};
 
-/// The JSON value of a text that has been read as a configuration: nothing but memory can stand in the way.
-pub(crate) fn read_document(alloc: Global, text: &[u8]) -> Result<Value, AllocError>
+/// The JSON value of a text that has one.
+pub(crate) fn document_of(alloc: Global, text: &[u8]) -> Result<Value, AllocError>
+    requires { HasDocument text.now }
     ensures document { IfOk result (λ value. IsDocument text.now (view value)) }
     ensures shallow { IfOk result (λ value. depth (view value) ≤ max_depth) }
 {
-    let Ok(json) = strip_comments(alloc, text) else {
-        return Err(AllocError);
+    let Some(value) = read_document(alloc, text)? else {
+        unreachable!()
     };
-    read_json(alloc, json.as_slice())
-}
-
-/// The value of a JSON text.
-fn read_json(alloc: Global, json: &[u8]) -> Result<Value, AllocError>
-    ensures read { IfOk result (λ value. read json.now ≡ Some (view value)) }
-    ensures shallow { IfOk result (λ value. depth (view value) ≤ max_depth) }
-{
-    match Value::from_slice(alloc, json) {
-        Ok(value) => Ok(value),
-        Err(_) => Err(AllocError),
-    }
+    Ok(value)
 }

@@ -8,9 +8,10 @@ ghost use Rattle.serde_json.specs.View.{view};
 ghost use Rattle.mcv_input.specs.declared.fault.RunFault.TheVariants.{Device};
 ghost use Rattle.mcv_mend.specs.Mending.{IsMendFault, IsMendingOn};
 ghost use Rattle.mcv_mend.specs.declared.fault.MendFault.TheVariants.{Run};
-ghost use Rattle.mcv_mend_patch.specs.Patching.{IsDocument, IsPatchBetween, IsPatchFrom, IsPatchOn};
+ghost use Rattle.mcv_places.specs.Document.{IsDocument};
+ghost use Rattle.mcv_mend_patch.specs.Patching.{HasDocument, IsPatchBetween, IsPatchFrom, IsPatchOn};
 
-use crate::document::read_document;
+use crate::document::document_of;
 use mcv_config::SIZE_LIMIT;
 use mcv_input::{read_at_most, write_text};
 use mcv_mend::{MendFault, Mending, Output, mend_text};
@@ -67,18 +68,21 @@ fn patch_of(alloc: Global, input: &[u8], output: &Output) -> Result<Vec<u8>, All
 
 /// The patch that makes the mended text of the input.
 fn patch_between(alloc: Global, input: &[u8], mended: &[u8]) -> Result<Vec<u8>, AllocError>
+    requires old { HasDocument input.now }
+    requires new { HasDocument mended.now }
     ensures { IfOk result (λ text. IsPatchBetween input.now mended.now text.items) }
 {
-    let old = read_document(alloc, input)?;
+    let old = document_of(alloc, input)?;
     patch_to(alloc, &old, mended)
 }
 
 /// The patch that makes a text's value of this one.
 fn patch_to(alloc: Global, old: &Value, mended: &[u8]) -> Result<Vec<u8>, AllocError>
-    requires { depth (view old.now) ≤ max_depth }
+    requires shallow { depth (view old.now) ≤ max_depth }
+    requires new { HasDocument mended.now }
     ensures { IfOk result (λ text. (new : Data) × IsDocument mended.now new × IsPatchFrom (view old.now) new text.items) }
 {
-    let value = read_document(alloc, mended)?;
+    let value = document_of(alloc, mended)?;
     patch_from(alloc, old, &value)
 }
 

@@ -4,10 +4,10 @@
 use Rattle.std.specs.Prelude.{◌≡◌, ◌≢◌, ◌<◌, ◌≤◌, ◌^◌, ◌⊎◌, ⊤, ℕ, Bool, true, false, List, [], ◌∷◌, Option, None, Some, IsSome, codes, fold, option_map}
 use Rattle.std.specs.Str.Parse.{IsNumeral, digits_value, without_leading_plus}
 use Rattle.clap.specs.Words.{App, IsAmong, Kinds, Row, Rule, Text, fault_of, first_of, new_app, new_rule, one_of, subcommand_of, with_rule, with_subcommand}
+use Rattle.clap.specs.declared.builder.action.ArgAction.TheVariants.{SetTrue}
 use Rattle.clap.specs.declared.builder.value_parser.ValueParser.TheVariants as parsers
 use Rattle.clap.specs.declared.error.kind.ErrorKind.{ErrorKind}
 use Rattle.clap.specs.declared.error.kind.ErrorKind.TheVariants.{DisplayHelp, DisplayVersion, OutOfMemory}
-use Rattle.clap.specs.declared.builder.action.ArgAction.TheVariants.{SetTrue}
 use Rattle.mcv_words.specs.Ranges.{proxy_limit, session_limit, timeout_limit, window_limit}
 use Rattle.mcv_words.specs.declared.options.ClientTimeout.{ClientTimeout}
 use Rattle.mcv_words.specs.declared.options.RunOptions.{RunOptions}
@@ -53,16 +53,16 @@ number_rule name least most = record (option_rule name) { parser = Some (parsers
 abbrev pub window_rule : Rule
 window_rule = record (number_rule (codes "window") 0 window_limit) { defaults = codes "0" ∷ [] }
 
--- `check [--cert FILE] [--window SECONDS]`
-abbrev pub check_app : App
-check_app = with_rule (with_rule (new_app (codes "check")) cert_rule) window_rule
-
 -- a flag, which takes no value
 abbrev pub flag_rule : Text → Rule
 flag_rule name = record (new_rule name) {
   long = Some name;
   action = Some SetTrue;
 }
+
+-- `check [--cert FILE] [--window SECONDS]`
+abbrev pub check_app : App
+check_app = with_rule (with_rule (new_app (codes "check")) cert_rule) window_rule
 
 -- `mend [--patch]`
 abbrev pub mend_app : App
@@ -139,6 +139,11 @@ abbrev pub IsNumberOf : (option : Text) → List Row → ℕ → Type 0
 IsNumberOf option rows n = (text : Text) × (one_of option rows ≡ Some text) × IsNumeral 10 (without_leading_plus text)
     × (n ≡ digits_value 10 (without_leading_plus text))
 
+-- whether a flag is given: clap reads it as `true`, and as `false` where it isn't
+abbrev pub IsFlag : (flag : Text) → List Row → Bool → Type 0
+IsFlag flag rows b =
+    (one_of flag rows ≡ Some (codes "true") → b ≡ true) × (one_of flag rows ≡ Some (codes "false") → b ≡ false) × (one_of flag rows ≡ None → b ≡ false)
+
 -- the value of `--cert`, or none, and that of `--window`
 abbrev pub HasCheckValues : List Row → (cert : Option Text) → Window → Type 0
 HasCheckValues rows cert window = (cert ≡ first_of (codes "cert") rows) × IsNumberOf (codes "window") rows window.seconds
@@ -146,11 +151,6 @@ HasCheckValues rows cert window = (cert ≡ first_of (codes "cert") rows) × IsN
 -- clap takes the words, and they name the command `check` with these values
 abbrev pub AsksCheck : List Text → (cert : Option Text) → Window → Type 0
 AsksCheck words cert window = (faults words ≡ []) × (rows : List Row) × (named words ≡ Some (codes "check", rows)) × HasCheckValues rows cert window
-
--- whether a flag is given: clap reads it as `true`, and as `false` where it isn't
-abbrev pub IsFlag : (flag : Text) → List Row → Bool → Type 0
-IsFlag flag rows b =
-    (one_of flag rows ≡ Some (codes "true") → b ≡ true) × (one_of flag rows ≡ Some (codes "false") → b ≡ false) × (one_of flag rows ≡ None → b ≡ false)
 
 -- clap takes the words, and they name the command `mend`, with `--patch` or without
 abbrev pub AsksMend : List Text → (patch : Bool) → Type 0

@@ -5,11 +5,13 @@ ghost use Rattle.std.specs.Prelude.{◌≡◌, codes, false, option_map, IfOk, I
 ghost use Rattle.clap.specs.Words.{Text, app_of, first_of, found_of, kind_of, rows_of, rule_of};
 ghost use Rattle.clap.specs.declared.builder.command.Command.TheViews.{out-Command as fields_of};
 ghost use Rattle.mcv_words.specs.Ranges.{window_limit};
-ghost use Rattle.mcv_words.specs.Words.{at_rule, cert_rule, check_app, client_timeout_rule, file_rule, flag_rule, legs_app, listen_rule, mcv_app, mend_app, proxies_rule, run_app, server_timeout_rule, sessions_rule, spool_app, spool_rule, window_rule, line_fault_number, CanRun, IsCheckOf, IsFaultOfKind, IsGivenIn, IsJobOf, IsLineFault, IsNumberIfGiven, IsRunOf, IsSpoolOf, MayBeGivenIn, IsMendOf};
+ghost use Rattle.mcv_words.specs.Words.{at_rule, cert_rule, check_app, client_timeout_rule, file_rule, flag_rule, legs_app, listen_rule, mcv_app, mend_app, proxies_rule, run_app, server_timeout_rule, sessions_rule, spool_app, spool_rule, window_rule, line_fault_number, CanRun, IsCheckOf, IsFaultOfKind, IsGivenIn, IsJobOf, IsLineFault, IsMendOf, IsNumberIfGiven, IsRunOf, IsSpoolOf, MayBeGivenIn};
 ghost use Rattle.mcv_words.specs.declared.words.LineFault.TheVariants.{Memory as out_of_memory};
 
 use crate::help::{
-    ABOUT, ALL, AT, CERT, CHECK_ABOUT, CHECK_FORM, CLIENT_TIMEOUT, EXAMPLE, FILE, LEGS_ABOUT, LEGS_FORM, LISTEN, MEND_ABOUT, MEND_FORM, PATCH, PROXIES, RUN_ABOUT, RUN_FORM, SERVER_TIMEOUT, SESSIONS, SPOOL, SPOOL_ABOUT, SPOOL_FORM, WINDOW,
+    ABOUT, ALL, AT, CERT, CHECK_ABOUT, CHECK_FORM, CLIENT_TIMEOUT, EXAMPLE, FILE, LEGS_ABOUT,
+    LEGS_FORM, LISTEN, MEND_ABOUT, MEND_FORM, PATCH, PROXIES, RUN_ABOUT, RUN_FORM, SERVER_TIMEOUT,
+    SESSIONS, SPOOL, SPOOL_ABOUT, SPOOL_FORM, WINDOW,
 };
 use crate::options::{
     ClientTimeout, InRange, Proxies, RunOptions, ServerTimeout, Sessions, Settings, SpoolOptions,
@@ -126,6 +128,17 @@ fn window_option<'a>(alloc: Global) -> Arg<'a>
         .help(WINDOW)
 }
 
+/// A flag by its name.
+fn flag<'a>(alloc: Global, name: &'static str, help: &'static str) -> Arg<'a>
+    ensures rule { rule_of result ≡ flag_rule name.now }
+    ensures local { result.global ≡ false }
+{
+    Arg::new(alloc, name)
+        .long(name)
+        .action(ArgAction::SetTrue)
+        .help(help)
+}
+
 fn check_command<'a>(alloc: Global) -> Result<Command<'a>, AllocError>
     ensures app { IfOk result (λ c. app_of c ≡ check_app) }
     ensures local { IfOk result (λ c. (fields_of c).has_globals ≡ false) }
@@ -136,17 +149,6 @@ fn check_command<'a>(alloc: Global) -> Result<Command<'a>, AllocError>
         .after_help(CHECK_FORM)
         .arg(cert_option(alloc))?
         .arg(window_option(alloc))
-}
-
-/// A flag by its name.
-fn flag<'a>(alloc: Global, name: &'static str, help: &'static str) -> Arg<'a>
-    ensures rule { rule_of result ≡ flag_rule name.now }
-    ensures local { result.global ≡ false }
-{
-    Arg::new(alloc, name)
-        .long(name)
-        .action(ArgAction::SetTrue)
-        .help(help)
 }
 
 fn mend_command<'a>(alloc: Global) -> Result<Command<'a>, AllocError>
