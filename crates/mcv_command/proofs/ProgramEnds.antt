@@ -1,5 +1,5 @@
 -- What the program did, by what the words asked for.
-use Rattle.std.proofs.Common.{◌≡◌, ◌≢◌, ◌∙◌, ap, inl, inr, refl, ◌+◌, ◌<◌, ◌≤◌, ℕ, List, length, take, Option, None, Some, Result, Err, subst, sym, arith}
+use Rattle.std.proofs.Common.{◌≡◌, ◌≢◌, ◌∙◌, ap, inl, inr, refl, ◌+◌, ◌<◌, ◌≤◌, ℕ, List, length, take, Option, None, Some, Result, Err, subst, sym, arith, Bool}
 use Rattle.std.specs.Prelude.{IfErr, IfSome, MatchOption}
 use Rattle.std.proofs.lemmas.List.{length-take}
 use Rattle.std.proofs.lemmas.Option.{IfSome_then}
@@ -51,12 +51,12 @@ mending_fault input (mend_faults.Run fault) holds = holds
 mending_fault input (mend_faults.Limit fault) holds = holds
 mending_fault input mend_faults.GaveUp holds = holds
 
-pub mending_stop : (words : List Text) (held : Held) (input : Option Text) (stop : Stop) → AsksMend words → IsMendingStop input stop → IsStop words held input stop
-mending_stop words held input BadLine asks holds = absurd holds
-mending_stop words held input (Damaged slot) asks holds = absurd holds
-mending_stop words held input (Run fault) asks holds = inr (inr (inr (inl (asks, holds))))
-mending_stop words held input (Mended fault) asks holds = (asks, holds)
-mending_stop words held input NoChange asks holds = (asks, holds)
+pub mending_stop : (words : List Text) (held : Held) (input : Option Text) (patch : Bool) (stop : Stop) → AsksMend words patch → IsMendingStop input stop → IsStop words held input stop
+mending_stop words held input patch BadLine asks holds = absurd holds
+mending_stop words held input patch (Damaged slot) asks holds = absurd holds
+mending_stop words held input patch (Run fault) asks holds = inr (inr (inr (inl (patch, asks, holds))))
+mending_stop words held input patch (Mended fault) asks holds = (patch, asks, holds)
+mending_stop words held input patch NoChange asks holds = (patch, asks, holds)
 
 -- ---- a run's faults
 

@@ -16,7 +16,7 @@ use Rattle.mcv_command.specs.declared.stop.Stop.TheVariants.{BadLine, Mended, No
 abbrev pub reads_configuration : Job → Bool
 reads_configuration (jobs.Legs at) = false
 reads_configuration (jobs.Check cert window) = true
-reads_configuration jobs.Mend = true
+reads_configuration (jobs.Mend patch) = true
 reads_configuration (jobs.Run options) = true
 reads_configuration (jobs.Spool options) = false
 

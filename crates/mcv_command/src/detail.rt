@@ -19,7 +19,7 @@ pub fn reads_configuration(job: &Job<'_>) -> bool
     match job {
         Job::Legs { .. } => false,
         Job::Check { .. } => true,
-        Job::Mend => true,
+        Job::Mend { patch: _ } => true,
         Job::Run(_) => true,
         Job::Spool(_) => false,
     }

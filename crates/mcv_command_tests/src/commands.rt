@@ -38,6 +38,9 @@ mcv check a.cert: bad line
 mcv check --at 1: bad line
 mcv legs --cert a: bad line
 mcv mend: mend
+mcv mend --patch: mend by a patch
+mcv mend --patch=yes: bad line
+mcv mend --patch --patch: bad line
 mcv mend mcrouter.json: bad line
 mcv mend --window 60: bad line
 mcv run --listen h:1 --spool f: run h:1 f - 1 0 - -
@@ -150,7 +153,8 @@ fn job_text(rt: &(impl AllocGlobal + Abort), job: Job<'_>) -> String {
             cert: Some(name),
             window,
         } => format!(in rt.alloc(); "check {} by {name}", window.seconds),
-        Job::Mend => format!(in rt.alloc(); "mend"),
+        Job::Mend { patch: false } => format!(in rt.alloc(); "mend"),
+        Job::Mend { patch: true } => format!(in rt.alloc(); "mend by a patch"),
         Job::Run(options) => {
             let order = order_text(rt, options);
             format!(in rt.alloc(); "run {order}")
@@ -344,7 +348,8 @@ const LEGS_PARTS: &[&str] = &[
 ];
 
 const MEND_PARTS: &[&str] = &[
-    "Usage: mcv mend < FILE",
+    "Usage: mcv mend [--patch] < FILE",
+    "--patch ",
     "\n  mcv mend < mcrouter.json > mended.json && diff mcrouter.json mended.json\n",
     "\n  3  nothing is written",
     "mcv: configuration NUMBER at PATH",
@@ -560,6 +565,9 @@ const WARM_UP_MENDED: &str =
 const DEEPEST: &str =
     "{\"pools\":{\"C\":{\"servers\":[\"a:11211\",\"b:11211\"]}},\"route\":\"AllSyncRoute|AllSyncRoute|AllSyncRoute|AllSyncRoute|AllSyncRoute|AllSyncRoute|AllSyncRoute|AllSyncRoute|AllSyncRoute|AllSyncRoute|AllSyncRoute|AllSyncRoute|AllSyncRoute|AllSyncRoute|AllSyncRoute|AllSyncRoute|AllSyncRoute|AllSyncRoute|AllSyncRoute|AllSyncRoute|AllSyncRoute|AllSyncRoute|AllSyncRoute|AllSyncRoute|AllSyncRoute|AllSyncRoute|AllSyncRoute|AllSyncRoute|AllSyncRoute|FailoverRoute|Pool|C\"}";
 
+const WARM_UP_PATCH: &str =
+    "[{\"op\":\"replace\",\"path\":\"/route\",\"value\":{\"default_policy\":{\"cold\":\"PoolRoute|A\",\"type\":\"WarmUpRoute\",\"warm\":\"PoolRoute|B\"},\"operation_policies\":{\"delete\":{\"children\":[\"PoolRoute|A\",\"PoolRoute|B\"],\"type\":\"AllSyncRoute\"}},\"type\":\"OperationSelectorRoute\"}}]\n";
+
 const TOO_DEEP: &str = "mcv: mended configuration 7 at /route/operation_policies/delete/children/0";
 
 #[test]
@@ -569,6 +577,15 @@ fn configurations_are_mended(rt: HostRuntime) {
     check_said(&rt, &["mcv", "mend"], DEEPEST, TOO_DEEP, 3);
     check_said(&rt, &["mcv", "mend"], "{", "mcv: configuration 1 at .", 2);
     check_stop(&rt, "mend", "mcv: configuration 1 at .", 2);
+}
+
+#[test]
+fn patches_are_written(rt: HostRuntime) {
+    let words = ["mcv", "mend", "--patch"];
+    check_said(&rt, &words, WARM_UP, WARM_UP_PATCH, 0);
+    check_said(&rt, &words, POOL, "[]\n", 0);
+    check_said(&rt, &words, DEEPEST, TOO_DEEP, 3);
+    check_said(&rt, &words, "{", "mcv: configuration 1 at .", 2);
 }
 
 /// What the program says and does where it is to serve three sessions at an address by two proxies.

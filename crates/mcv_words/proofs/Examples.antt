@@ -1,7 +1,7 @@
 -- What clap makes of short command lines.
 use Rattle.std.proofs.Common.{◌≡◌, [], ◌∷◌, ◌++◌, List, Option, Some, None, refl, codes, option_map}
 use Rattle.clap.specs.Words.{Row, Text, first_of, one_of}
-use Rattle.clap.specs.declared.error.kind.ErrorKind.TheVariants.{ArgumentConflict, DisplayHelp, DisplayVersion, InvalidSubcommand, MissingRequiredArgument, MissingSubcommand, UnknownArgument, ValueValidation}
+use Rattle.clap.specs.declared.error.kind.ErrorKind.TheVariants.{ArgumentConflict, DisplayHelp, DisplayVersion, InvalidSubcommand, MissingRequiredArgument, MissingSubcommand, TooManyValues, UnknownArgument, ValueValidation}
 use Rattle.clap.proofs.OnLiterals.{clap_on_literals}
 use Rattle.mcv_words.specs.Words.{faults, named}
 
@@ -130,6 +130,22 @@ mend_named = refl
 mend_of_a_file : faults (codes "mcv" ∷ codes "mend" ∷ codes "mcrouter.json" ∷ []) ≡ UnknownArgument ∷ []
 unfolding clap_on_literals
 mend_of_a_file = refl
+
+abbrev patch_of : Option (Text × List Row) → Option (Option Text)
+patch_of = option_map (λ p. one_of (codes "patch") p.1)
+
+patch_named : patch_of (named (codes "mcv" ∷ codes "mend" ∷ codes "--patch" ∷ [])) ≡ Some (Some (codes "true"))
+unfolding clap_on_literals
+patch_named = refl
+
+no_patch_named : patch_of (named (codes "mcv" ∷ codes "mend" ∷ [])) ≡ Some (Some (codes "false"))
+unfolding clap_on_literals
+no_patch_named = refl
+
+-- a flag takes no value
+patch_with_a_value : faults (codes "mcv" ∷ codes "mend" ∷ codes "--patch=x" ∷ []) ≡ TooManyValues ∷ []
+unfolding clap_on_literals
+patch_with_a_value = refl
 
 abbrev at_address : List Text
 at_address = codes "mcv" ∷ codes "run" ∷ codes "--listen" ∷ codes "h:1" ∷ []

@@ -53,13 +53,20 @@ number_rule name least most = record (option_rule name) { parser = Some (parsers
 abbrev pub window_rule : Rule
 window_rule = record (number_rule (codes "window") 0 window_limit) { defaults = codes "0" ∷ [] }
 
+-- a flag, which takes no value
+abbrev pub flag_rule : Text → Rule
+flag_rule name = record (new_rule name) {
+  long = Some name;
+  action = Some SetTrue;
+}
+
 -- `check [--cert FILE] [--window SECONDS]`
 abbrev pub check_app : App
 check_app = with_rule (with_rule (new_app (codes "check")) cert_rule) window_rule
 
--- `mend`
+-- `mend [--patch]`
 abbrev pub mend_app : App
-mend_app = new_app (codes "mend")
+mend_app = with_rule (new_app (codes "mend")) (flag_rule (codes "patch"))
 
 -- `--listen ADDRESS`, `--spool FILE`: wanted
 abbrev pub listen_rule : Rule
@@ -90,13 +97,6 @@ run_rules = listen_rule ∷ spool_rule ∷ sessions_rule ∷ proxies_rule ∷ wi
 -- `run --listen ADDRESS --spool FILE` with the options whose rules stand above
 abbrev pub run_app : App
 run_app = fold with_rule (new_app (codes "run")) run_rules
-
--- a flag, which takes no value
-abbrev pub flag_rule : Text → Rule
-flag_rule name = record (new_rule name) {
-  long = Some name;
-  action = Some SetTrue;
-}
 
 -- `FILE`: wanted, and told by its place
 abbrev pub file_rule : Rule
@@ -139,6 +139,11 @@ abbrev pub IsNumberOf : (option : Text) → List Row → ℕ → Type 0
 IsNumberOf option rows n = (text : Text) × (one_of option rows ≡ Some text) × IsNumeral 10 (without_leading_plus text)
     × (n ≡ digits_value 10 (without_leading_plus text))
 
+-- whether a flag is given: clap reads it as `true`, and as `false` where it isn't
+abbrev pub IsFlag : (flag : Text) → List Row → Bool → Type 0
+IsFlag flag rows b =
+    (one_of flag rows ≡ Some (codes "true") → b ≡ true) × (one_of flag rows ≡ Some (codes "false") → b ≡ false) × (one_of flag rows ≡ None → b ≡ false)
+
 -- the value of `--cert`, or none, and that of `--window`
 abbrev pub HasCheckValues : List Row → (cert : Option Text) → Window → Type 0
 HasCheckValues rows cert window = (cert ≡ first_of (codes "cert") rows) × IsNumberOf (codes "window") rows window.seconds
@@ -147,9 +152,9 @@ HasCheckValues rows cert window = (cert ≡ first_of (codes "cert") rows) × IsN
 abbrev pub AsksCheck : List Text → (cert : Option Text) → Window → Type 0
 AsksCheck words cert window = (faults words ≡ []) × (rows : List Row) × (named words ≡ Some (codes "check", rows)) × HasCheckValues rows cert window
 
--- clap takes the words, and they name the command `mend`
-abbrev pub AsksMend : List Text → Type 0
-AsksMend words = (faults words ≡ []) × (rows : List Row) × (named words ≡ Some (codes "mend", rows))
+-- clap takes the words, and they name the command `mend`, with `--patch` or without
+abbrev pub AsksMend : List Text → (patch : Bool) → Type 0
+AsksMend words patch = (faults words ≡ []) × (rows : List Row) × (named words ≡ Some (codes "mend", rows)) × IsFlag (codes "patch") rows patch
 
 -- the value of an option that may be left out: none, or a number
 abbrev pub IsNumberIfGiven : (option : Text) → List Row → Option ℕ → Type 0
@@ -183,11 +188,6 @@ pub record HasRunValues (rows : List Row) (order : RunOrder) : Type 0 where
 abbrev pub AsksRun : List Text → RunOrder → Type 0
 AsksRun words order = (faults words ≡ []) × (rows : List Row) × (named words ≡ Some (codes "run", rows)) × HasRunValues rows order
 
--- whether a flag is given: clap reads it as `true`, and as `false` where it isn't
-abbrev pub IsFlag : (flag : Text) → List Row → Bool → Type 0
-IsFlag flag rows b =
-    (one_of flag rows ≡ Some (codes "true") → b ≡ true) × (one_of flag rows ≡ Some (codes "false") → b ≡ false) × (one_of flag rows ≡ None → b ≡ false)
-
 -- what `spool` is asked for: the name of the spool's file, and whether records that are done are shown, too
 pub record SpoolOrder : Type 0 where
   pub file : Text
@@ -208,15 +208,23 @@ AsksSpool words order = (faults words ≡ []) × (rows : List Row) × (named wor
 abbrev pub IsCheckOf : List Row → Job → Type 0
 IsCheckOf rows (Legs at) = ⊥
 IsCheckOf rows (Check cert window) = HasCheckValues rows (option_map (λ name. name.now) cert) window
-IsCheckOf rows Mend = ⊥
+IsCheckOf rows (Mend patch) = ⊥
 IsCheckOf rows (Run options) = ⊥
 IsCheckOf rows (Spool options) = ⊥
+
+-- the job of `mend` with these values
+abbrev pub IsMendOf : List Row → Job → Type 0
+IsMendOf rows (Legs at) = ⊥
+IsMendOf rows (Check cert window) = ⊥
+IsMendOf rows (Mend patch) = IsFlag (codes "patch") rows patch
+IsMendOf rows (Run options) = ⊥
+IsMendOf rows (Spool options) = ⊥
 
 -- the job of `run` with these values
 abbrev pub IsRunOf : List Row → Job → Type 0
 IsRunOf rows (Legs at) = ⊥
 IsRunOf rows (Check cert window) = ⊥
-IsRunOf rows Mend = ⊥
+IsRunOf rows (Mend patch) = ⊥
 IsRunOf rows (Run options) = HasRunValues rows (order_of options)
 IsRunOf rows (Spool options) = ⊥
 
@@ -224,7 +232,7 @@ IsRunOf rows (Spool options) = ⊥
 abbrev pub IsSpoolOf : List Row → Job → Type 0
 IsSpoolOf rows (Legs at) = ⊥
 IsSpoolOf rows (Check cert window) = ⊥
-IsSpoolOf rows Mend = ⊥
+IsSpoolOf rows (Mend patch) = ⊥
 IsSpoolOf rows (Run options) = ⊥
 IsSpoolOf rows (Spool options) = HasSpoolValues rows (spool_order_of options)
 
@@ -250,7 +258,7 @@ pub record CanRun (rows : List Row) : Type 0 where
 abbrev pub IsJobOf : List Text → Job → Type 0
 IsJobOf words (Check cert window) = AsksCheck words (option_map (λ name. name.now) cert) window
 IsJobOf words (Legs at) = (faults words ≡ []) × (rows : List Row) × (named words ≡ Some (codes "legs", rows)) × IsNumberOf (codes "at") rows at.0
-IsJobOf words Mend = AsksMend words
+IsJobOf words (Mend patch) = AsksMend words patch
 IsJobOf words (Run options) = AsksRun words (order_of options)
 IsJobOf words (Spool options) = AsksSpool words (spool_order_of options)
 

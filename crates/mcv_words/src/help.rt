@@ -170,6 +170,8 @@ A configuration that isn't read is reported as
 
 pub(crate) const MEND_ABOUT: &str = "Adds the deletes that a configuration lacks";
 
+pub(crate) const PATCH: &str = "Writes the change alone, as a JSON patch (RFC 6902)";
+
 pub(crate) const MEND_FORM: &str =
     "Standard input has the configuration as JSON; `mcv legs --help` says which route
 handles are read. Where it can lose a delete, standard output has it with legs
@@ -181,7 +183,9 @@ What is written is what was read, with insertions: comments, order and spaces
 stay. Legs are added and none is taken away; only deletes are sent otherwise
 than before. The legs that keys of one class get are the least: with any of them
 left out, a server could be read that misses a delete. A configuration that is
-covered is written byte for byte. As with `mcv check` without `--window`, a read
+covered is written byte for byte. With `--patch` standard output has a JSON patch
+in a line, of one operation, or of none where the configuration is covered; it
+makes the same of the configuration without its comments. As with `mcv check` without `--window`, a read
 and a delete are judged at one stage of each migration.
 
 Exit status:

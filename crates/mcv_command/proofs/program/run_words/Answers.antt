@@ -65,7 +65,7 @@ returns-in-Ok-Check-Some-default-clause-silent g c = IfErr-weaker c.judge_by.res
 pub returns-in-Ok-Mend-clause-done : goal.returns-in-Ok-Mend-clause-done
 returns-in-Ok-Mend-clause-done g c =
     let asks = rw c.in-Ok-Mend.field-0-is at c.in-Ok-Mend.ensures.job in
-    IfOk-weaker c.mend.result _ _ (λ ending mended. inr (inr (inr (inl (asks, mended))))) c.mend.ensures.done
+    IfOk-weaker c.mend.result _ _ (λ ending mended. inr (inr (inr (inl (c.in-Ok-Mend.patch, asks, mended))))) c.mend.ensures.done
 
 pub returns-in-Ok-Mend-clause-stop : goal.returns-in-Ok-Mend-clause-stop
 returns-in-Ok-Mend-clause-stop g c =
@@ -73,7 +73,7 @@ returns-in-Ok-Mend-clause-stop g c =
     let held = g.F.NamedFiles.held c.args.files.now in
     let known = g.R.Read.remaining c.args.reader.now in
     let asks = rw c.in-Ok-Mend.field-0-is at c.in-Ok-Mend.ensures.job in
-    IfErr-weaker c.mend.result _ _ (λ stop holds. mending_stop words held known stop asks holds) c.mend.ensures.stop
+    IfErr-weaker c.mend.result _ _ (λ stop holds. mending_stop words held known c.in-Ok-Mend.patch stop asks holds) c.mend.ensures.stop
 
 pub returns-in-Ok-Mend-clause-silent : goal.returns-in-Ok-Mend-clause-silent
 returns-in-Ok-Mend-clause-silent g c = IfErr-weaker c.mend.result _ _ (λ stop silent no_device unasked unlisted. silent no_device) c.mend.ensures.silent
