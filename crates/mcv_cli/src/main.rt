@@ -12,7 +12,7 @@ use mcv_net::{NetFault, SpoolFiles, serve};
 use mcv_words::{RunOptions, Settings, read_words};
 use std::alloc::{AllocError, Global};
 use std::cell::Cell;
-use std::fs::Files;
+use std::fs::{File, Files};
 use std::io;
 use std::io::{Eprint, Write};
 use std::net::{Net, TcpListener, TcpStream};
@@ -107,7 +107,7 @@ impl Proxy for Orders {
 const READ_LIMIT: u64 = 16_777_217;
 
 /// Does what the words ask for, and keeps what is to be served.
-fn read<R: Env + AllocGlobal + Input + Print + Files>(
+fn read<R: Env + AllocGlobal + Input + Print + Files<File = File>>(
     rt: &R,
     orders: &Orders,
 ) -> Result<End, Stop> {
@@ -136,7 +136,7 @@ fn read<R: Env + AllocGlobal + Input + Print + Files>(
 }
 
 /// Does what the words ask for of a configuration, and says more of a fault in it.
-fn judge<R: AllocGlobal + Print + Files>(
+fn judge<R: AllocGlobal + Print + Files<File = File>>(
     rt: &R,
     words: &[&str],
     orders: &Orders,
@@ -189,7 +189,7 @@ where
         + AllocGlobal
         + Input
         + Print
-        + Files
+        + Files<File = File>
         + Net<Stream = TcpStream, Listener = TcpListener>
         + SpoolFiles
         + Threads

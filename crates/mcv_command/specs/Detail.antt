@@ -10,14 +10,15 @@ use Rattle.mcv_words.specs.declared.words.Job.{Job}
 use Rattle.mcv_words.specs.declared.words.Job.TheVariants as jobs
 use Rattle.mcv_command.specs.declared.stop.Ending.{Ending}
 use Rattle.mcv_command.specs.declared.stop.Stop.{Stop}
-use Rattle.mcv_command.specs.declared.stop.Stop.TheVariants.{BadLine, Mended, NoChange, Run}
+use Rattle.mcv_command.specs.declared.stop.Stop.TheVariants.{BadLine, Mended, NoChange, Run, Damaged}
 
--- the job is done on a configuration alone: `legs` has a request before it
+-- the job is done on a configuration alone: `legs` has a request before it, and `spool` reads no input
 abbrev pub reads_configuration : Job → Bool
 reads_configuration (jobs.Legs at) = false
 reads_configuration (jobs.Check cert window) = true
 reads_configuration jobs.Mend = true
 reads_configuration (jobs.Run options) = true
+reads_configuration (jobs.Spool options) = false
 
 -- the fault of the configuration, where it is one
 abbrev pub config_fault : RunFault → Option ConfigFault
@@ -36,6 +37,7 @@ ended_fault (Ok ending) = None
 ended_fault (Err BadLine) = None
 ended_fault (Err (Mended fault)) = None
 ended_fault (Err NoChange) = None
+ended_fault (Err (Damaged slot)) = None
 ended_fault (Err (Run fault)) = config_fault fault
 
 -- more is said of a fault of the configuration, which is the input, and of nothing else

@@ -21,6 +21,7 @@ pub fn reads_configuration(job: &Job<'_>) -> bool
         Job::Check { .. } => true,
         Job::Mend => true,
         Job::Run(_) => true,
+        Job::Spool(_) => false,
     }
 }
 
@@ -48,6 +49,7 @@ fn fault_of(ended: &Result<Ending, Stop>) -> Option<&ConfigFault>
         Err(Stop::BadLine) => None,
         Err(Stop::Mended(_)) => None,
         Err(Stop::NoChange) => None,
+        Err(Stop::Damaged(_)) => None,
         Err(Stop::Run(fault)) => config_fault(fault),
     }
 }

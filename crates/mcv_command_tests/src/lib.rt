@@ -12,4 +12,6 @@ mod input;
 #[cfg(test)]
 mod legs;
 #[cfg(test)]
+mod spool;
+#[cfg(test)]
 mod verdict;

@@ -1,5 +1,5 @@
-//! The program `mcv` without its proxy, for who only judges and mends configurations: `legs`, `check` and `mend` as in the
-//! whole program. `run` is a bad command line here.
+//! The program `mcv` without its proxy, for who only judges and mends configurations: `legs`, `check`, `mend` and `spool` as
+//! in the whole program. `run` is a bad command line here.
 #![tactic(auto)]
 
 use mcv_check::Accepted;
@@ -10,7 +10,7 @@ use mcv_command::{
 use mcv_input::{RunFault, read_at_most};
 use mcv_words::{RunOptions, read_words};
 use std::alloc::Global;
-use std::fs::Files;
+use std::fs::{File, Files};
 use std::io;
 use std::io::Write;
 use std::process::ExitCode;
@@ -62,7 +62,7 @@ impl Proxy for NoProxy {
 /// The most bytes that are read of a configuration: one more than it may have.
 const READ_LIMIT: u64 = 16_777_217;
 
-fn run<R: Env + AllocGlobal + Input + Print + Files>(rt: &R) -> Result<End, Stop> {
+fn run<R: Env + AllocGlobal + Input + Print + Files<File = File>>(rt: &R) -> Result<End, Stop> {
     let alloc = rt.alloc();
     let words = given_words(rt)?;
     let texts: Vec<&str> = words.iter().map(|word| word.as_str()).collect(alloc)?;
@@ -91,7 +91,7 @@ fn run<R: Env + AllocGlobal + Input + Print + Files>(rt: &R) -> Result<End, Stop
 }
 
 /// Does what the words ask for of a configuration, and says more of a fault in it.
-fn judge<R: AllocGlobal + Print + Files>(rt: &R, words: &[&str], input: &[u8]) -> End {
+fn judge<R: AllocGlobal + Print + Files<File = File>>(rt: &R, words: &[&str], input: &[u8]) -> End {
     let alloc = rt.alloc();
     let mut rest = input;
     let files = SystemFiles { system: rt };
