@@ -10,3 +10,6 @@ returns-in_err-routes-clause-fault c =
     let gone = err_from_is_err_and c.from_residual.result c.from_residual.ensures.1 in
     rw (gone.1)
     (subst (λ (fault : RunFault). IsInputFault c.args.text.now fault) (sym gone.2) (refused_input c.args.text.now c.in_err-routes.field-0.0 c.in_err-routes.ensures.fault))
+
+pub unreachable-requires : goal.unreachable-requires
+unreachable-requires c = named_has_document c.args.text.now c.in_ok-routes.routes c.in_ok-routes.ensures.named (rw c.in_default.is at c.in_ok-document.ensures)
