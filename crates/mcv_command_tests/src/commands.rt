@@ -6,7 +6,7 @@ use crate::devices::{HeldBytes, is_written};
 use mcv_check::Accepted;
 use mcv_command::{Ending, NamedFiles, Proxy, Stop, run_words};
 use mcv_input::{RunFault, read_at_most};
-use mcv_words::{Job, LineFault, RunOptions, SpoolOptions, read_words};
+use mcv_words::{CheckOptions, Job, LineFault, RunOptions, SpoolOptions, read_words};
 use std::alloc::Global;
 use std::io::Write;
 use std::process::Abort;
@@ -35,6 +35,11 @@ mcv check --cert=: check 0 by
 mcv check --cert: bad line
 mcv check --cert a --cert b: bad line
 mcv check a.cert: bad line
+mcv check --explain: check 0, explained
+mcv check --explain -q --window 60: check 60, explained, quietly
+mcv check --quiet --cert a.cert: check 0 by a.cert, quietly
+mcv check --explain --explain: bad line
+mcv check --explain=yes: bad line
 mcv check --at 1: bad line
 mcv legs --cert a: bad line
 mcv mend: mend
@@ -148,11 +153,20 @@ fn order_text(rt: &(impl AllocGlobal + Abort), options: RunOptions<'_>) -> Strin
 fn job_text(rt: &(impl AllocGlobal + Abort), job: Job<'_>) -> String {
     let text = match job {
         Job::Legs { at } => format!(in rt.alloc(); "legs at {}", at.0),
-        Job::Check { cert: None, window } => format!(in rt.alloc(); "check {}", window.seconds),
+        Job::Check {
+            cert: None,
+            options,
+        } => {
+            let window = options.window.seconds;
+            format!(in rt.alloc(); "check {window}{}", options_text(options))
+        }
         Job::Check {
             cert: Some(name),
-            window,
-        } => format!(in rt.alloc(); "check {} by {name}", window.seconds),
+            options,
+        } => {
+            let window = options.window.seconds;
+            format!(in rt.alloc(); "check {window} by {name}{}", options_text(options))
+        }
         Job::Mend { patch: false } => format!(in rt.alloc(); "mend"),
         Job::Mend { patch: true } => format!(in rt.alloc(); "mend by a patch"),
         Job::Run(options) => {
@@ -165,6 +179,15 @@ fn job_text(rt: &(impl AllocGlobal + Abort), job: Job<'_>) -> String {
         }
     };
     text.expect(rt, "memory")
+}
+
+fn options_text(options: CheckOptions) -> &'static str {
+    match (options.explain, options.quiet) {
+        (false, false) => "",
+        (true, false) => ", explained",
+        (false, true) => ", quietly",
+        (true, true) => ", explained, quietly",
+    }
 }
 
 fn fault_text(fault: &LineFault) -> &'static str {
@@ -322,7 +345,9 @@ const MAIN_PARTS: &[&str] = &[
 ];
 
 const CHECK_PARTS: &[&str] = &[
-    "Usage: mcv check [--cert FILE] [--window SECONDS] < FILE",
+    "Usage: mcv check [--cert FILE] [--window SECONDS] [--explain] [-q] < FILE",
+    "--explain",
+    "-q, --quiet",
     "--cert <FILE>",
     "--window <SECONDS>",
     "from 0 to 4294967295 [default: 0]",

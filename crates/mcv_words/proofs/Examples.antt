@@ -238,3 +238,25 @@ no_file = refl
 two_files : faults (spool_line ++ codes "g" ∷ []) ≡ UnknownArgument ∷ []
 unfolding clap_on_literals
 two_files = refl
+
+-- ---- the flags of `check`
+
+abbrev flag_of : Text → Option (Text × List Row) → Option (Option Text)
+flag_of flag = option_map (λ p. one_of flag p.1)
+
+explain_named : flag_of (codes "explain") (named (codes "mcv" ∷ codes "check" ∷ codes "--explain" ∷ [])) ≡ Some (Some (codes "true"))
+unfolding clap_on_literals
+explain_named = refl
+
+explain_absent : flag_of (codes "explain") (named (codes "mcv" ∷ codes "check" ∷ codes "--quiet" ∷ [])) ≡ Some (Some (codes "false"))
+unfolding clap_on_literals
+explain_absent = refl
+
+quiet_named : flag_of (codes "quiet") (named (codes "mcv" ∷ codes "check" ∷ codes "-q" ∷ [])) ≡ Some (Some (codes "true"))
+unfolding clap_on_literals
+quiet_named = refl
+
+-- a flag takes no value
+flag_with_a_value : faults (codes "mcv" ∷ codes "check" ∷ codes "--explain=x" ∷ []) ≡ TooManyValues ∷ []
+unfolding clap_on_literals
+flag_with_a_value = refl

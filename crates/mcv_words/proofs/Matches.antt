@@ -127,7 +127,7 @@ can_run rows has = record {
 -- the job of `check` that has the values of the words is what they ask for
 pub check_asked : (words : List Text) (rows : List Row) (job : Job) → faults words ≡ [] → named words ≡ Some (codes "check", rows) → IsCheckOf rows job → IsJobOf words job
 check_asked words rows (Legs at) none check of = absurd of
-check_asked words rows (Check cert window) none check of = (none, rows, check, of)
+check_asked words rows (Check cert options) none check of = (none, rows, check, of)
 check_asked words rows (Mend patch) none check of = absurd of
 check_asked words rows (Run options) none check of = absurd of
 check_asked words rows (Spool options) none check of = absurd of
@@ -143,7 +143,7 @@ mend_asked words rows (Spool options) none mend of = absurd of
 -- the job of `run` that has the values of the words is what they ask for
 pub run_asked : (words : List Text) (rows : List Row) (job : Job) → faults words ≡ [] → named words ≡ Some (codes "run", rows) → IsRunOf rows job → IsJobOf words job
 run_asked words rows (Legs at) none run of = absurd of
-run_asked words rows (Check cert window) none run of = absurd of
+run_asked words rows (Check cert options) none run of = absurd of
 run_asked words rows (Mend patch) none run of = absurd of
 run_asked words rows (Run options) none run of = (none, rows, run, of)
 run_asked words rows (Spool options) none run of = absurd of
@@ -151,7 +151,7 @@ run_asked words rows (Spool options) none run of = absurd of
 -- the job of `spool` that has the values of the words is what they ask for
 pub spool_asked : (words : List Text) (rows : List Row) (job : Job) → faults words ≡ [] → named words ≡ Some (codes "spool", rows) → IsSpoolOf rows job → IsJobOf words job
 spool_asked words rows (Legs at) none spool of = absurd of
-spool_asked words rows (Check cert window) none spool of = absurd of
+spool_asked words rows (Check cert options) none spool of = absurd of
 spool_asked words rows (Mend patch) none spool of = absurd of
 spool_asked words rows (Run options) none spool of = absurd of
 spool_asked words rows (Spool options) none spool of = (none, rows, spool, of)

@@ -24,7 +24,7 @@ use Rattle.clap.specs.declared.builder.value_parser.Reading.TheVariants.{AsWritt
 use Rattle.clap.specs.declared.parser.matches.ValueSource.{ValueSource}
 use Rattle.clap.specs.declared.parser.matches.ValueSource.TheVariants.{CommandLine, DefaultValue}
 use Rattle.mcv_words.specs.Ranges.{proxy_limit, session_limit, timeout_limit, window_limit}
-use Rattle.mcv_words.specs.Words.{at_rule, cert_rule, check_app, client_timeout_rule, faults, file_rule, flag_rule, legs_app, listen_rule, mcv_app, named, proxies_rule, run_app, server_timeout_rule, sessions_rule, spool_app, spool_rule, window_rule}
+use Rattle.mcv_words.specs.Words.{at_rule, cert_rule, check_app, client_timeout_rule, faults, file_rule, flag_rule, legs_app, listen_rule, mcv_app, named, proxies_rule, quiet_rule, run_app, server_timeout_rule, sessions_rule, spool_app, spool_rule, window_rule}
 use Rattle.mcv_words.proofs.CommandIsNamed.{StopsAtCommand, none_below, none_of, some_kind, stop_of, stops_at_command}
 
 -- ---- rows
@@ -428,6 +428,19 @@ check_window_tame (v ∷ vs) rows none good =
     let taken = none_of (range_kinds 1 1 (suc (length vs))) (set_fault false (with_index 1 (filled window_rule)) (v ∷ vs) rows) none in
     written check.rules (codes "window") v vs rows (value_passes (repeat_fault false (codes "window") rows) [] (values_fault (with_index 1 (filled window_rule)) vs) _ taken.1) good
 
+no_value_for_flag : (n : ℕ) → range_kinds 0 0 (suc n) ≡ [] → ⊥
+no_value_for_flag n none =
+    let apart : (0 == suc n) ≡ false = ne_eqb 0 (suc n) (λ same. omega arith) in
+    some_kind WrongNumberOfValues [] (rw apart at none)
+
+explain_tame : IsTame check (with_index 1 (filled (flag_rule (codes "explain"))))
+explain_tame [] rows none good = written check.rules (codes "explain") (codes "true") [] rows refl good
+explain_tame (v ∷ vs) rows none good = absurd (no_value_for_flag (length vs) (none_of (range_kinds 0 0 (suc (length vs))) (set_fault false (with_index 1 (filled (flag_rule (codes "explain")))) (v ∷ vs) rows) none).0)
+
+quiet_tame : IsTame check (with_index 1 (filled quiet_rule))
+quiet_tame [] rows none good = written check.rules (codes "quiet") (codes "true") [] rows refl good
+quiet_tame (v ∷ vs) rows none good = absurd (no_value_for_flag (length vs) (none_of (range_kinds 0 0 (suc (length vs))) (set_fault false (with_index 1 (filled quiet_rule)) (v ∷ vs) rows) none).0)
+
 check_help : IsTame check (with_index 1 (filled help_rule))
 check_help values rows none good = absurd (no_help values rows none)
 
@@ -436,14 +449,19 @@ HasWindow = HasNumber (codes "window") 0 window_limit
 
 check_given : (words : List Text) → level_fault check [] nothing_held words false [] ≡ [] → HasWindow (rows_after check.rules [] words)
 check_given words none =
-    let tame : AreTame check check.rules = (cert_tame, (check_window_tame, (check_help, tt))) in
+    let tame : AreTame check check.rules = (cert_tame, (check_window_tame, (explain_tame, (quiet_tame, (check_help, tt))))) in
     let start : List Row = (settled check.rules (walk check.rules [] nothing_held words).held).rows in
     let given : List Row = with_default start (with_index 1 (filled cert_rule)) in
-    let after : List Row = with_default given (with_index 1 (filled window_rule)) in
+    let windowed : List Row = with_default given (with_index 1 (filled window_rule)) in
+    let explained : List Row = with_default windowed (with_index 1 (filled (flag_rule (codes "explain")))) in
+    let after : List Row = with_default explained (with_index 1 (filled quiet_rule)) in
     let same : given ≡ start = unchanged (has_row (codes "cert") start) start in
     let good = subst (λ (rows : List Row). AreGood check.rules rows) (sym same) (leaf_good check tame words none).0 in
-    let last = defaulted check.rules (codes "window") (codes "0") given refl refl good in
-    let found = found_value check.rules (codes "window") after last.1 last.0 in
+    let first = defaulted check.rules (codes "window") (codes "0") given refl refl good in
+    let second = defaulted check.rules (codes "explain") (codes "false") windowed refl refl first.0 in
+    let last = defaulted check.rules (codes "quiet") (codes "false") explained refl refl second.0 in
+    let has = kept (codes "window") (codes "quiet") (codes "false") explained (kept (codes "window") (codes "explain") (codes "false") windowed first.1) in
+    let found = found_value check.rules (codes "window") after has last.0 in
     subst HasWindow (sym (unchanged (has_row (codes "help") after) after)) (found.0, found.2, found.3)
 
 -- ---- `run`
@@ -550,11 +568,6 @@ spool = built_leaf (inherited (built mcv_app).top spool_app.top)
 file_tame : IsTame spool (with_index 1 (filled file_rule))
 file_tame [] rows none good = absurd (some_kind InvalidValue [] none)
 file_tame (v ∷ vs) rows none good = written spool.rules (codes "file") v vs rows refl good
-
-no_value_for_flag : (n : ℕ) → range_kinds 0 0 (suc n) ≡ [] → ⊥
-no_value_for_flag n none =
-    let apart : (0 == suc n) ≡ false = ne_eqb 0 (suc n) (λ same. omega arith) in
-    some_kind WrongNumberOfValues [] (rw apart at none)
 
 all_tame : IsTame spool (with_index 2 (filled (flag_rule (codes "all"))))
 all_tame [] rows none good = written spool.rules (codes "all") (codes "true") [] rows refl good

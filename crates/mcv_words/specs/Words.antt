@@ -9,13 +9,13 @@ use Rattle.clap.specs.declared.builder.value_parser.ValueParser.TheVariants as p
 use Rattle.clap.specs.declared.error.kind.ErrorKind.{ErrorKind}
 use Rattle.clap.specs.declared.error.kind.ErrorKind.TheVariants.{DisplayHelp, DisplayVersion, OutOfMemory}
 use Rattle.mcv_words.specs.Ranges.{proxy_limit, session_limit, timeout_limit, window_limit}
+use Rattle.mcv_words.specs.declared.options.CheckOptions.{CheckOptions}
 use Rattle.mcv_words.specs.declared.options.ClientTimeout.{ClientTimeout}
 use Rattle.mcv_words.specs.declared.options.RunOptions.{RunOptions}
 use Rattle.mcv_words.specs.declared.options.ServerTimeout.{ServerTimeout}
 use Rattle.mcv_words.specs.declared.options.Sessions.{Sessions}
 use Rattle.mcv_words.specs.declared.options.Settings.{Settings}
 use Rattle.mcv_words.specs.declared.options.SpoolOptions.{SpoolOptions}
-use Rattle.mcv_words.specs.declared.options.Window.{Window}
 use Rattle.mcv_words.specs.declared.words.Job.{Job}
 use Rattle.mcv_words.specs.declared.words.Job.TheVariants.{Legs, Check, Mend, Run, Spool}
 use Rattle.mcv_words.specs.declared.words.LineFault.{LineFault}
@@ -60,9 +60,13 @@ flag_rule name = record (new_rule name) {
   action = Some SetTrue;
 }
 
--- `check [--cert FILE] [--window SECONDS]`
+-- `-q`, `--quiet`
+abbrev pub quiet_rule : Rule
+quiet_rule = record (flag_rule (codes "quiet")) { short = Some 113 }
+
+-- `check [--cert FILE] [--window SECONDS] [--explain] [-q]`
 abbrev pub check_app : App
-check_app = with_rule (with_rule (new_app (codes "check")) cert_rule) window_rule
+check_app = with_rule (with_rule (with_rule (with_rule (new_app (codes "check")) cert_rule) window_rule) (flag_rule (codes "explain"))) quiet_rule
 
 -- `mend [--patch]`
 abbrev pub mend_app : App
@@ -144,13 +148,14 @@ abbrev pub IsFlag : (flag : Text) → List Row → Bool → Type 0
 IsFlag flag rows b =
     (one_of flag rows ≡ Some (codes "true") → b ≡ true) × (one_of flag rows ≡ Some (codes "false") → b ≡ false) × (one_of flag rows ≡ None → b ≡ false)
 
--- the value of `--cert`, or none, and that of `--window`
-abbrev pub HasCheckValues : List Row → (cert : Option Text) → Window → Type 0
-HasCheckValues rows cert window = (cert ≡ first_of (codes "cert") rows) × IsNumberOf (codes "window") rows window.seconds
+-- the value of `--cert`, or none, that of `--window`, and whether `--explain` and `-q` are given
+abbrev pub HasCheckValues : List Row → (cert : Option Text) → CheckOptions → Type 0
+HasCheckValues rows cert options = (cert ≡ first_of (codes "cert") rows) × IsNumberOf (codes "window") rows options.window.seconds
+    × IsFlag (codes "explain") rows options.explain × IsFlag (codes "quiet") rows options.quiet
 
 -- clap takes the words, and they name the command `check` with these values
-abbrev pub AsksCheck : List Text → (cert : Option Text) → Window → Type 0
-AsksCheck words cert window = (faults words ≡ []) × (rows : List Row) × (named words ≡ Some (codes "check", rows)) × HasCheckValues rows cert window
+abbrev pub AsksCheck : List Text → (cert : Option Text) → CheckOptions → Type 0
+AsksCheck words cert options = (faults words ≡ []) × (rows : List Row) × (named words ≡ Some (codes "check", rows)) × HasCheckValues rows cert options
 
 -- clap takes the words, and they name the command `mend`, with `--patch` or without
 abbrev pub AsksMend : List Text → (patch : Bool) → Type 0
@@ -207,7 +212,7 @@ AsksSpool words order = (faults words ≡ []) × (rows : List Row) × (named wor
 -- the job of `check` with these values
 abbrev pub IsCheckOf : List Row → Job → Type 0
 IsCheckOf rows (Legs at) = ⊥
-IsCheckOf rows (Check cert window) = HasCheckValues rows (option_map (λ name. name.now) cert) window
+IsCheckOf rows (Check cert options) = HasCheckValues rows (option_map (λ name. name.now) cert) options
 IsCheckOf rows (Mend patch) = ⊥
 IsCheckOf rows (Run options) = ⊥
 IsCheckOf rows (Spool options) = ⊥
@@ -223,7 +228,7 @@ IsMendOf rows (Spool options) = ⊥
 -- the job of `run` with these values
 abbrev pub IsRunOf : List Row → Job → Type 0
 IsRunOf rows (Legs at) = ⊥
-IsRunOf rows (Check cert window) = ⊥
+IsRunOf rows (Check cert options) = ⊥
 IsRunOf rows (Mend patch) = ⊥
 IsRunOf rows (Run options) = HasRunValues rows (order_of options)
 IsRunOf rows (Spool options) = ⊥
@@ -231,7 +236,7 @@ IsRunOf rows (Spool options) = ⊥
 -- the job of `spool` with these values
 abbrev pub IsSpoolOf : List Row → Job → Type 0
 IsSpoolOf rows (Legs at) = ⊥
-IsSpoolOf rows (Check cert window) = ⊥
+IsSpoolOf rows (Check cert options) = ⊥
 IsSpoolOf rows (Mend patch) = ⊥
 IsSpoolOf rows (Run options) = ⊥
 IsSpoolOf rows (Spool options) = HasSpoolValues rows (spool_order_of options)
@@ -256,7 +261,7 @@ pub record CanRun (rows : List Row) : Type 0 where
 
 -- clap takes the words, and they name the job's command with the values that the job has
 abbrev pub IsJobOf : List Text → Job → Type 0
-IsJobOf words (Check cert window) = AsksCheck words (option_map (λ name. name.now) cert) window
+IsJobOf words (Check cert options) = AsksCheck words (option_map (λ name. name.now) cert) options
 IsJobOf words (Legs at) = (faults words ≡ []) × (rows : List Row) × (named words ≡ Some (codes "legs", rows)) × IsNumberOf (codes "at") rows at.0
 IsJobOf words (Mend patch) = AsksMend words patch
 IsJobOf words (Run options) = AsksRun words (order_of options)

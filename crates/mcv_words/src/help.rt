@@ -77,6 +77,10 @@ pub(crate) const CHECK_ABOUT: &str = "Decides whether a configuration can lose a
 
 pub(crate) const CERT: &str = "A certificate in place of one that mcv makes";
 
+pub(crate) const EXPLAIN: &str = "The finding in sentences behind its text";
+
+pub(crate) const QUIET: &str = "One line on standard error for a fault, not two";
+
 pub(crate) const WINDOW: &str = "How many seconds may lie between a delete and a
 get, from 0 to 4294967295";
 

@@ -127,6 +127,16 @@ impl InRange for ClientTimeout {
     }
 }
 
+/// Within which window a configuration is judged, and what is said of it.
+#[derive(Clone, Copy, Debug, PartialEq, Eq)]
+pub struct CheckOptions {
+    pub window: Window,
+    /// With an explanation behind the verdict.
+    pub explain: bool,
+    /// With one line for a fault, in place of two.
+    pub quiet: bool,
+}
+
 /// The numbers of `run`'s options.
 #[derive(Clone, Copy, Debug, PartialEq, Eq)]
 pub struct Settings {

@@ -5,17 +5,17 @@ ghost use Rattle.std.specs.Prelude.{◌≡◌, codes, false, option_map, IfOk, I
 ghost use Rattle.clap.specs.Words.{Text, app_of, first_of, found_of, kind_of, rows_of, rule_of};
 ghost use Rattle.clap.specs.declared.builder.command.Command.TheViews.{out-Command as fields_of};
 ghost use Rattle.mcv_words.specs.Ranges.{window_limit};
-ghost use Rattle.mcv_words.specs.Words.{at_rule, cert_rule, check_app, client_timeout_rule, file_rule, flag_rule, legs_app, listen_rule, mcv_app, mend_app, proxies_rule, run_app, server_timeout_rule, sessions_rule, spool_app, spool_rule, window_rule, line_fault_number, CanRun, IsCheckOf, IsFaultOfKind, IsGivenIn, IsJobOf, IsLineFault, IsMendOf, IsNumberIfGiven, IsRunOf, IsSpoolOf, MayBeGivenIn};
+ghost use Rattle.mcv_words.specs.Words.{at_rule, cert_rule, check_app, client_timeout_rule, file_rule, flag_rule, legs_app, line_fault_number, listen_rule, mcv_app, mend_app, proxies_rule, quiet_rule, run_app, server_timeout_rule, sessions_rule, spool_app, spool_rule, window_rule, CanRun, IsCheckOf, IsFaultOfKind, IsGivenIn, IsJobOf, IsLineFault, IsMendOf, IsNumberIfGiven, IsRunOf, IsSpoolOf, MayBeGivenIn};
 ghost use Rattle.mcv_words.specs.declared.words.LineFault.TheVariants.{Memory as out_of_memory};
 
 use crate::help::{
-    ABOUT, ALL, AT, CERT, CHECK_ABOUT, CHECK_FORM, CLIENT_TIMEOUT, EXAMPLE, FILE, LEGS_ABOUT,
-    LEGS_FORM, LISTEN, MEND_ABOUT, MEND_FORM, PATCH, PROXIES, RUN_ABOUT, RUN_FORM, SERVER_TIMEOUT,
-    SESSIONS, SPOOL, SPOOL_ABOUT, SPOOL_FORM, WINDOW,
+    ABOUT, ALL, AT, CERT, CHECK_ABOUT, CHECK_FORM, CLIENT_TIMEOUT, EXAMPLE, EXPLAIN, FILE,
+    LEGS_ABOUT, LEGS_FORM, LISTEN, MEND_ABOUT, MEND_FORM, PATCH, PROXIES, QUIET, RUN_ABOUT,
+    RUN_FORM, SERVER_TIMEOUT, SESSIONS, SPOOL, SPOOL_ABOUT, SPOOL_FORM, WINDOW,
 };
 use crate::options::{
-    ClientTimeout, InRange, Proxies, RunOptions, ServerTimeout, Sessions, Settings, SpoolOptions,
-    Window,
+    CheckOptions, ClientTimeout, InRange, Proxies, RunOptions, ServerTimeout, Sessions, Settings,
+    SpoolOptions, Window,
 };
 use clap::builder::ValueParser;
 use clap::error::ErrorKind;
@@ -31,10 +31,10 @@ pub enum Job<'a> {
     Legs {
         at: Moment,
     },
-    /// To judge a configuration within this window, by the certificate in the file of this name where one is given.
+    /// To judge a configuration, by the certificate in the file of this name where one is given, as the options say.
     Check {
         cert: Option<&'a str>,
-        window: Window,
+        options: CheckOptions,
     },
     /// To mend a configuration, or to write the patch that mends it.
     Mend {
@@ -139,16 +139,25 @@ fn flag<'a>(alloc: Global, name: &'static str, help: &'static str) -> Arg<'a>
         .help(help)
 }
 
+fn quiet_flag<'a>(alloc: Global) -> Arg<'a>
+    ensures rule { rule_of result ≡ quiet_rule }
+    ensures local { result.global ≡ false }
+{
+    flag(alloc, "quiet", QUIET).short('q')
+}
+
 fn check_command<'a>(alloc: Global) -> Result<Command<'a>, AllocError>
     ensures app { IfOk result (λ c. app_of c ≡ check_app) }
     ensures local { IfOk result (λ c. (fields_of c).has_globals ≡ false) }
 {
     Command::new(alloc, "check")
         .about(CHECK_ABOUT)
-        .override_usage("mcv check [--cert FILE] [--window SECONDS] < FILE")
+        .override_usage("mcv check [--cert FILE] [--window SECONDS] [--explain] [-q] < FILE")
         .after_help(CHECK_FORM)
         .arg(cert_option(alloc))?
-        .arg(window_option(alloc))
+        .arg(window_option(alloc))?
+        .arg(flag(alloc, "explain", EXPLAIN))?
+        .arg(quiet_flag(alloc))
 }
 
 fn mend_command<'a>(alloc: Global) -> Result<Command<'a>, AllocError>
@@ -329,7 +338,16 @@ fn check_job<'a>(found: &ArgMatches<'a>) -> Result<Job<'a>, LineFault>
     let Some(window) = number_of::<Window>(found, "window")? else {
         return Err(LineFault::BadLine);
     };
-    Ok(Job::Check { cert, window })
+    let explain = found.get_flag("explain");
+    let quiet = found.get_flag("quiet");
+    Ok(Job::Check {
+        cert,
+        options: CheckOptions {
+            window,
+            explain,
+            quiet,
+        },
+    })
 }
 
 /// The job of `mend`, by what clap found for its options.
