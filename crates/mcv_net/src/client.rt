@@ -13,7 +13,7 @@ use std::time::Duration;
 #[derive(Drop)]
 struct Seated {
     stream: TcpStream,
-    seat: Seat,
+    _seat: Seat,
 }
 
 /// One end of a session's work on its client's connection, which is closed with the last end; then its seat is free.
@@ -38,7 +38,11 @@ impl Client {
             stream.set_read_timeout(most)?;
             stream.set_write_timeout(most)?;
         }
-        let seated = Arc::new(alloc, Seated { stream, seat }).map_err(AllocError::from)?;
+        let seated = Seated {
+            stream,
+            _seat: seat,
+        };
+        let seated = Arc::new(alloc, seated).map_err(AllocError::from)?;
         let other = Arc::try_clone(&seated)?;
         Ok((Client { seated }, Client { seated: other }))
     }

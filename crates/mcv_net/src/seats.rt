@@ -10,7 +10,7 @@ use std::sync::Arc;
 /// The seat of a client. It is free again once it is dropped.
 #[derive(Drop)]
 pub struct Seat {
-    shared: Arc<()>,
+    _shared: Arc<()>,
 }
 
 /// The seats of clients, and how many clients were refused one.
@@ -57,7 +57,7 @@ impl Seats {
             return None;
         }
         match Arc::try_clone(&self.shared) {
-            Ok(shared) => Some(Seat { shared }),
+            Ok(shared) => Some(Seat { _shared: shared }),
             Err(_) => None,
         }
     }
