@@ -25,9 +25,9 @@ mutual
     member : List ℕ → Place → Members → Members
 
 abbrev pub span_of : Place → Span
-span_of (object span members) = span
-span_of (array span items) = span
-span_of (text span body) = span
+span_of (object span _) = span
+span_of (array span _) = span
+span_of (text span _) = span
 span_of (other span) = span
 
 -- ---- what the code's values mean

@@ -30,15 +30,15 @@ IsWord (Some (json_object ms)) = ⊥
 -- a list one behind the other
 abbrev mutual
   pub StandsIn : (bytes : List ℕ) → (from to : ℕ) → Place → Type 0
-  StandsIn bytes from to (object span members) = IsWithin from to span × IsBetween 123 125 (bytes_at bytes span) × MembersStand bytes span.start span.end members
-  StandsIn bytes from to (array span items) = IsWithin from to span × IsBetween 91 93 (bytes_at bytes span) × ItemsStand bytes span.start span.end items
+  StandsIn bytes from to (object span ms) = IsWithin from to span × IsBetween 123 125 (bytes_at bytes span) × MembersStand bytes span.start span.end ms
+  StandsIn bytes from to (array span ps) = IsWithin from to span × IsBetween 91 93 (bytes_at bytes span) × ItemsStand bytes span.start span.end ps
   StandsIn bytes from to (text span body) = IsWithin from to span × (read (bytes_at bytes span) ≡ Some (string body))
   StandsIn bytes from to (other span) = IsWithin from to span × IsWord (read (bytes_at bytes span))
 
   pub MembersStand : (bytes : List ℕ) → (from to : ℕ) → Members → Type 0
   MembersStand bytes from to no_members = ⊤
-  MembersStand bytes from to (member name p members) = StandsIn bytes from to p × MembersStand bytes from to members
+  MembersStand bytes from to (member _ p ms) = StandsIn bytes from to p × MembersStand bytes from to ms
 
   pub ItemsStand : (bytes : List ℕ) → (from to : ℕ) → Items → Type 0
   ItemsStand bytes from to no_items = ⊤
-  ItemsStand bytes from to (item p items) = StandsIn bytes from to p × ItemsStand bytes (span_of p).end to items
+  ItemsStand bytes from to (item p ps) = StandsIn bytes from to p × ItemsStand bytes (span_of p).end to ps
