@@ -1,6 +1,6 @@
 //! How many clients are served at once.
 
-ghost use Rattle.std.specs.Prelude.{◌≡◌, None, Some, IfOk, if◌then◌else◌};
+ghost use Rattle.std.specs.Prelude.{◌≡◌, ◌<◌, ◌+◌, None, Some, IfOk, if◌then◌else◌};
 ghost use Rattle.mcv_net.specs.Seats.{has_room, is_told};
 
 use mcv_words::MaxClients;
@@ -64,9 +64,13 @@ impl Seats {
 
     /// Counts a client that got none. How many these are, where an operator is to be told.
     pub(crate) fn refuse(&mut self) -> Option<u64>
-        ensures { result ≡ if is_told self.new.refused then Some self.new.refused else None }
+        ensures count { self.old.refused < 18446744073709551615 → self.new.refused ≡ self.old.refused + 1 }
+        ensures told { result ≡ if is_told self.new.refused then Some self.new.refused else None }
+        ensures most { self.new.most ≡ self.old.most }
     {
-        self.refused = self.refused.saturating_add(1);
+        if self.refused < u64::MAX {
+            self.refused += 1;
+        }
         if is_told(self.refused) {
             Some(self.refused)
         } else {
