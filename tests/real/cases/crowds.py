@@ -7,7 +7,7 @@ import threading
 import time
 
 from fakes import Fake
-from parts import (LIMIT, UNLIMITED, Failed, address_of, answer, case, deletes_to_all, expect, one_pool, records, replayed,
+from parts import (LIMIT, UNLIMITED, Failed, address_of, case, deletes_to_all, expect, one_pool, records, replayed,
                    stored, value_answer, wait_for)
 
 
@@ -138,6 +138,15 @@ def told(*counts):
     return UNLIMITED + b"".join(b"mcv: too many clients: %d refused\n" % count for count in counts)
 
 
+def is_served(mcv):
+    """Whether there is a seat for a further client. It is told where there is none, and may be told before it has asked."""
+    with mcv.client() as other:
+        other.send(b"get a\r\nquit\r\n")
+        line = other.line()
+        expect(line in (b"END\r\n", TOO_MANY), True, "an answer, %s" % line)
+        return line == b"END\r\n"
+
+
 @case()
 def clients_past_the_limit_are_refused(machine):
     mcv = machine.mcv(one_pool(machine.servers(1)), max_clients=2)
@@ -150,15 +159,7 @@ def clients_past_the_limit_are_refused(machine):
             expect(mcv.error_text(), told(1) if n < 999 else told(1, 1000), "standard error")
         two.ask(b"get a\r\nquit\r\n", b"END\r\n")
         expect(two.rest(), b"")
-
-        def has_a_seat():
-            with mcv.client() as other:
-                other.send(b"get a\r\n")
-                line = other.line()
-                expect(line in (b"END\r\n", TOO_MANY), True, "an answer, %s" % line)
-                return line == b"END\r\n"
-
-        wait_for(has_a_seat, "a seat is free again")
+        wait_for(lambda: is_served(mcv), "a seat is free again")
         one.ask(b"get a\r\n", b"END\r\n")
 
 
@@ -170,7 +171,7 @@ def a_client_that_is_refused_is_no_session(machine):
         for _ in range(3):
             with mcv.client() as other:
                 expect(other.rest(), TOO_MANY)
-    wait_for(lambda: answer(mcv.address, b"get a\r\nquit\r\n") == b"END\r\n", "the second session")
+    wait_for(lambda: is_served(mcv), "the second session")
     expect(mcv.last_lines(), (b"mcv closed calls 2\n", 0))
 
 
