@@ -48,26 +48,26 @@ mcv mend --patch=yes: bad line
 mcv mend --patch --patch: bad line
 mcv mend mcrouter.json: bad line
 mcv mend --window 60: bad line
-mcv run --listen h:1 --spool f: run h:1 f - 1 0 - -
-mcv run --spool=f --listen=h:1 --sessions=+7: run h:1 f 7 1 0 - -
-mcv run --listen h:1 --spool f --sessions 1: run h:1 f 1 1 0 - -
-mcv run --listen h:1 --spool f --sessions 1000000000: run h:1 f 1000000000 1 0 - -
+mcv run --listen h:1 --spool f: run h:1 f - 1 0 - - -
+mcv run --spool=f --listen=h:1 --sessions=+7: run h:1 f 7 1 0 - - -
+mcv run --listen h:1 --spool f --sessions 1: run h:1 f 1 1 0 - - -
+mcv run --listen h:1 --spool f --sessions 1000000000: run h:1 f 1000000000 1 0 - - -
 mcv run --listen h:1 --spool f --sessions 1000000001: bad line
 mcv run --listen h:1 --spool f --sessions 0: bad line
 mcv run --listen h:1 --spool f --sessions -1: bad line
 mcv run --listen h:1 --spool f --sessions all: bad line
 mcv run --listen h:1 --spool f --sessions: bad line
 mcv run --listen h:1 --spool f --sessions 1 --sessions 2: bad line
-mcv run --listen h:1 --spool f --proxies 1: run h:1 f - 1 0 - -
-mcv run --listen h:1 --spool f --proxies=64 --sessions 7: run h:1 f 7 64 0 - -
+mcv run --listen h:1 --spool f --proxies 1: run h:1 f - 1 0 - - -
+mcv run --listen h:1 --spool f --proxies=64 --sessions 7: run h:1 f 7 64 0 - - -
 mcv run --listen h:1 --spool f --proxies 65: bad line
 mcv run --listen h:1 --spool f --proxies 0: bad line
 mcv run --listen h:1 --spool f --proxies auto: bad line
 mcv run --listen h:1 --spool f --proxies: bad line
 mcv run --listen h:1 --spool f --proxies 1 --proxies 2: bad line
-mcv run --listen h:1 --spool f --server-timeout 200: run h:1 f - 1 0 200 -
-mcv run --listen h:1 --spool f --server-timeout=1 --client-timeout=3600000: run h:1 f - 1 0 1 3600000
-mcv run --listen h:1 --spool f --client-timeout 200: run h:1 f - 1 0 - 200
+mcv run --listen h:1 --spool f --server-timeout 200: run h:1 f - 1 0 200 - -
+mcv run --listen h:1 --spool f --server-timeout=1 --client-timeout=3600000: run h:1 f - 1 0 1 3600000 -
+mcv run --listen h:1 --spool f --client-timeout 200: run h:1 f - 1 0 - 200 -
 mcv run --listen h:1 --spool f --server-timeout 0: bad line
 mcv run --listen h:1 --spool f --server-timeout 3600001: bad line
 mcv run --listen h:1 --spool f --server-timeout 1s: bad line
@@ -75,8 +75,11 @@ mcv run --listen h:1 --spool f --server-timeout: bad line
 mcv run --listen h:1 --spool f --client-timeout 0: bad line
 mcv run --listen h:1 --spool f --client-timeout 3600001: bad line
 mcv run --listen h:1 --spool f --client-timeout 1 --client-timeout 1: bad line
-mcv run --listen= --spool=: run   - 1 0 - -
-mcv run --listen h:1 --spool f --window 60: run h:1 f - 1 60 - -
+mcv run --listen h:1 --spool f --max-clients 1000000: run h:1 f - 1 0 - - 1000000
+mcv run --listen h:1 --spool f --max-clients 0: bad line
+mcv run --listen h:1 --spool f --max-clients 1000001: bad line
+mcv run --listen= --spool=: run   - 1 0 - - -
+mcv run --listen h:1 --spool f --window 60: run h:1 f - 1 60 - - -
 mcv run --listen h:1 --spool f --window 4294967296: bad line
 mcv run: bad line
 mcv run --listen h:1: bad line
@@ -144,8 +147,9 @@ fn order_text(rt: &(impl AllocGlobal + Abort), options: RunOptions<'_>) -> Strin
     let window = settings.window.seconds;
     let server = number_text(rt, settings.server_timeout.map(|timeout| timeout.millis));
     let client = number_text(rt, settings.client_timeout.map(|timeout| timeout.millis));
+    let clients = number_text(rt, settings.max_clients.map(|clients| clients.count));
     let text = format!(in rt.alloc();
-        "{listen} {spool} {sessions} {proxies} {window} {server} {client}"
+        "{listen} {spool} {sessions} {proxies} {window} {server} {client} {clients}"
     );
     text.expect(rt, "memory")
 }
@@ -408,6 +412,7 @@ const RUN_PARTS: &[&str] = &[
     "[default: 1]",
     "--server-timeout <MS>",
     "--client-timeout <MS>",
+    "--max-clients <N>",
     "mcrouter's `--num-proxies`",
     "\n  mcv run --listen 127.0.0.1:5000 --spool mcv.spool --server-timeout 1000 \\\n    < mcrouter.json\n",
     "\n  mcv listening 127.0.0.1:5000 pending 0\n",

@@ -189,6 +189,14 @@ timeouts_named : run_of (named (run_line ++ codes "--client-timeout" ∷ codes "
 unfolding clap_on_literals
 timeouts_named = refl
 
+max_clients_named : option_map (λ (p : Text × List Row). one_of (codes "max-clients") p.1) (named (run_line ++ codes "--max-clients" ∷ codes "1000000" ∷ [])) ≡ Some (Some (codes "1000000"))
+unfolding clap_on_literals
+max_clients_named = refl
+
+no_clients : faults (run_line ++ codes "--max-clients" ∷ codes "0" ∷ []) ≡ ValueValidation ∷ []
+unfolding clap_on_literals
+no_clients = refl
+
 no_spool : faults at_address ≡ MissingRequiredArgument ∷ []
 unfolding clap_on_literals
 no_spool = refl

@@ -12,7 +12,7 @@ use Rattle.clap.specs.declared.parser.matches.ArgMatches.{ArgMatches}
 use Rattle.clap.specs.declared.parser.matches.ArgMatches.TheViews.{out-ArgMatches, out-SubCommand}
 use Rattle.clap.specs.declared.parser.matches.SubCommand.{SubCommand}
 use Rattle.clap.specs.Simple.{subcommand_rows}
-use Rattle.mcv_words.specs.Ranges.{proxy_limit, session_limit, timeout_limit, window_limit}
+use Rattle.mcv_words.specs.Ranges.{proxy_limit, session_limit, timeout_limit, window_limit, client_limit}
 use Rattle.mcv_words.specs.Words.{faults, named, CanRun, IsCheckOf, IsFaultOfKind, IsGivenIn, IsJobOf, IsLineFault, IsNumberOf, IsRunOf, IsSpoolOf, MayBeGivenIn, IsMendOf}
 use Rattle.mcv_words.specs.declared.words.Job.{Job}
 use Rattle.mcv_words.specs.declared.words.Job.TheVariants.{Legs, Check, Mend, Run, Spool}
@@ -122,6 +122,7 @@ can_run rows has = record {
   window = given_in (codes "window") 0 window_limit rows has.window;
   server_timeout = may_be_given_in (codes "server-timeout") 1 timeout_limit rows has.server_timeout;
   client_timeout = may_be_given_in (codes "client-timeout") 1 timeout_limit rows has.client_timeout;
+  max_clients = may_be_given_in (codes "max-clients") 1 client_limit rows has.max_clients;
 }
 
 -- the job of `check` that has the values of the words is what they ask for
@@ -135,7 +136,7 @@ check_asked words rows (Spool options) none check of = absurd of
 -- the job of `mend` that has the values of the words is what they ask for
 pub mend_asked : (words : List Text) (rows : List Row) (job : Job) → faults words ≡ [] → named words ≡ Some (codes "mend", rows) → IsMendOf rows job → IsJobOf words job
 mend_asked words rows (Legs at) none mend of = absurd of
-mend_asked words rows (Check cert window) none mend of = absurd of
+mend_asked words rows (Check cert options) none mend of = absurd of
 mend_asked words rows (Mend patch) none mend of = (none, rows, mend, of)
 mend_asked words rows (Run options) none mend of = absurd of
 mend_asked words rows (Spool options) none mend of = absurd of

@@ -8,9 +8,10 @@ use Rattle.clap.specs.declared.builder.action.ArgAction.TheVariants.{SetTrue}
 use Rattle.clap.specs.declared.builder.value_parser.ValueParser.TheVariants as parsers
 use Rattle.clap.specs.declared.error.kind.ErrorKind.{ErrorKind}
 use Rattle.clap.specs.declared.error.kind.ErrorKind.TheVariants.{DisplayHelp, DisplayVersion, OutOfMemory}
-use Rattle.mcv_words.specs.Ranges.{proxy_limit, session_limit, timeout_limit, window_limit}
+use Rattle.mcv_words.specs.Ranges.{proxy_limit, session_limit, timeout_limit, window_limit, client_limit}
 use Rattle.mcv_words.specs.declared.options.CheckOptions.{CheckOptions}
 use Rattle.mcv_words.specs.declared.options.ClientTimeout.{ClientTimeout}
+use Rattle.mcv_words.specs.declared.options.MaxClients.{MaxClients}
 use Rattle.mcv_words.specs.declared.options.RunOptions.{RunOptions}
 use Rattle.mcv_words.specs.declared.options.ServerTimeout.{ServerTimeout}
 use Rattle.mcv_words.specs.declared.options.Sessions.{Sessions}
@@ -94,9 +95,13 @@ server_timeout_rule = number_rule (codes "server-timeout") 1 timeout_limit
 abbrev pub client_timeout_rule : Rule
 client_timeout_rule = number_rule (codes "client-timeout") 1 timeout_limit
 
+-- `--max-clients N`: a number from 1 to 1000000
+abbrev pub max_clients_rule : Rule
+max_clients_rule = number_rule (codes "max-clients") 1 client_limit
+
 -- the options of `run`, in the order of its help
 abbrev pub run_rules : List Rule
-run_rules = listen_rule ∷ spool_rule ∷ sessions_rule ∷ proxies_rule ∷ window_rule ∷ server_timeout_rule ∷ client_timeout_rule ∷ []
+run_rules = listen_rule ∷ spool_rule ∷ sessions_rule ∷ proxies_rule ∷ window_rule ∷ server_timeout_rule ∷ client_timeout_rule ∷ max_clients_rule ∷ []
 
 -- `run --listen ADDRESS --spool FILE` with the options whose rules stand above
 abbrev pub run_app : App
@@ -173,6 +178,7 @@ pub record HasSettings (rows : List Row) (s : Settings) : Type 0 where
   pub window : IsNumberOf (codes "window") rows s.window.seconds
   pub server_timeout : IsNumberIfGiven (codes "server-timeout") rows (option_map (λ (t : ServerTimeout). t.millis) s.server_timeout)
   pub client_timeout : IsNumberIfGiven (codes "client-timeout") rows (option_map (λ (t : ClientTimeout). t.millis) s.client_timeout)
+  pub max_clients : IsNumberIfGiven (codes "max-clients") rows (option_map (λ (n : MaxClients). n.count) s.max_clients)
 
 -- what `run` is asked for: the address, the name of the spool's file, and the numbers, each of which is in its range by its type
 pub record RunOrder : Type 0 where
@@ -220,7 +226,7 @@ IsCheckOf rows (Spool options) = ⊥
 -- the job of `mend` with these values
 abbrev pub IsMendOf : List Row → Job → Type 0
 IsMendOf rows (Legs at) = ⊥
-IsMendOf rows (Check cert window) = ⊥
+IsMendOf rows (Check cert options) = ⊥
 IsMendOf rows (Mend patch) = IsFlag (codes "patch") rows patch
 IsMendOf rows (Run options) = ⊥
 IsMendOf rows (Spool options) = ⊥
@@ -258,6 +264,7 @@ pub record CanRun (rows : List Row) : Type 0 where
   pub window : IsGivenIn (codes "window") 0 window_limit rows
   pub server_timeout : MayBeGivenIn (codes "server-timeout") 1 timeout_limit rows
   pub client_timeout : MayBeGivenIn (codes "client-timeout") 1 timeout_limit rows
+  pub max_clients : MayBeGivenIn (codes "max-clients") 1 client_limit rows
 
 -- clap takes the words, and they name the job's command with the values that the job has
 abbrev pub IsJobOf : List Text → Job → Type 0

@@ -5,17 +5,17 @@ ghost use Rattle.std.specs.Prelude.{◌≡◌, codes, false, option_map, IfOk, I
 ghost use Rattle.clap.specs.Words.{Text, app_of, first_of, found_of, kind_of, rows_of, rule_of};
 ghost use Rattle.clap.specs.declared.builder.command.Command.TheViews.{out-Command as fields_of};
 ghost use Rattle.mcv_words.specs.Ranges.{window_limit};
-ghost use Rattle.mcv_words.specs.Words.{at_rule, cert_rule, check_app, client_timeout_rule, file_rule, flag_rule, legs_app, line_fault_number, listen_rule, mcv_app, mend_app, proxies_rule, quiet_rule, run_app, server_timeout_rule, sessions_rule, spool_app, spool_rule, window_rule, CanRun, IsCheckOf, IsFaultOfKind, IsGivenIn, IsJobOf, IsLineFault, IsMendOf, IsNumberIfGiven, IsRunOf, IsSpoolOf, MayBeGivenIn};
+ghost use Rattle.mcv_words.specs.Words.{at_rule, cert_rule, check_app, client_timeout_rule, file_rule, flag_rule, legs_app, line_fault_number, listen_rule, max_clients_rule, mcv_app, mend_app, proxies_rule, quiet_rule, run_app, server_timeout_rule, sessions_rule, spool_app, spool_rule, window_rule, CanRun, IsCheckOf, IsFaultOfKind, IsGivenIn, IsJobOf, IsLineFault, IsMendOf, IsNumberIfGiven, IsRunOf, IsSpoolOf, MayBeGivenIn};
 ghost use Rattle.mcv_words.specs.declared.words.LineFault.TheVariants.{Memory as out_of_memory};
 
 use crate::help::{
     ABOUT, ALL, AT, CERT, CHECK_ABOUT, CHECK_FORM, CLIENT_TIMEOUT, EXAMPLE, EXPLAIN, FILE,
-    LEGS_ABOUT, LEGS_FORM, LISTEN, MEND_ABOUT, MEND_FORM, PATCH, PROXIES, QUIET, RUN_ABOUT,
-    RUN_FORM, SERVER_TIMEOUT, SESSIONS, SPOOL, SPOOL_ABOUT, SPOOL_FORM, WINDOW,
+    LEGS_ABOUT, LEGS_FORM, LISTEN, MAX_CLIENTS, MEND_ABOUT, MEND_FORM, PATCH, PROXIES, QUIET,
+    RUN_ABOUT, RUN_FORM, SERVER_TIMEOUT, SESSIONS, SPOOL, SPOOL_ABOUT, SPOOL_FORM, WINDOW,
 };
 use crate::options::{
-    CheckOptions, ClientTimeout, InRange, Proxies, RunOptions, ServerTimeout, Sessions, Settings,
-    SpoolOptions, Window,
+    CheckOptions, ClientTimeout, InRange, MaxClients, Proxies, RunOptions, ServerTimeout, Sessions,
+    Settings, SpoolOptions, Window,
 };
 use clap::builder::ValueParser;
 use clap::error::ErrorKind;
@@ -238,6 +238,17 @@ fn client_timeout_option<'a>(alloc: Global) -> Arg<'a>
         .help(CLIENT_TIMEOUT)
 }
 
+fn max_clients_option<'a>(alloc: Global) -> Arg<'a>
+    ensures rule { rule_of result ≡ max_clients_rule }
+    ensures local { result.global ≡ false }
+{
+    Arg::new(alloc, "max-clients")
+        .long("max-clients")
+        .value_name("N")
+        .value_parser(ValueParser::unsigned(1, 1_000_000))
+        .help(MAX_CLIENTS)
+}
+
 fn run_command<'a>(alloc: Global) -> Result<Command<'a>, AllocError>
     ensures app { IfOk result (λ c. app_of c ≡ run_app) }
     ensures local { IfOk result (λ c. (fields_of c).has_globals ≡ false) }
@@ -252,7 +263,8 @@ fn run_command<'a>(alloc: Global) -> Result<Command<'a>, AllocError>
         .arg(proxies_option(alloc))?
         .arg(window_option(alloc))?
         .arg(server_timeout_option(alloc))?
-        .arg(client_timeout_option(alloc))
+        .arg(client_timeout_option(alloc))?
+        .arg(max_clients_option(alloc))
 }
 
 fn file_argument<'a>(alloc: Global) -> Arg<'a>
@@ -378,6 +390,7 @@ fn run_job<'a>(found: &ArgMatches<'a>) -> Result<Job<'a>, LineFault>
     };
     let server_timeout = number_of::<ServerTimeout>(found, "server-timeout")?;
     let client_timeout = number_of::<ClientTimeout>(found, "client-timeout")?;
+    let max_clients = number_of::<MaxClients>(found, "max-clients")?;
     Ok(Job::Run(RunOptions {
         listen,
         spool,
@@ -387,6 +400,7 @@ fn run_job<'a>(found: &ArgMatches<'a>) -> Result<Job<'a>, LineFault>
             window,
             server_timeout,
             client_timeout,
+            max_clients,
         },
     }))
 }
