@@ -266,6 +266,7 @@ impl Machine {
         ensures asks { IfOk result (λ found. MatchOption found (self.new.request ≡ self.old.request)
             (λ r. ((ask : AskValue) × (request_value (arc_value r) ≡ asking ask)) × (self.new.request ≡ Some (request_value (arc_value r))) × (self.old.request ≡ None) × (self.new.phase ≡ Phase.Open) × (length self.new.waiting < length self.old.waiting))) }
         ensures idle { IfOk result (λ found. found ≡ None → self.new.request ≡ None → self.new.phase ≡ Phase.Open → self.new.waiting ≡ []) }
+        ensures goes_on { OnOk result (self.new.phase ≡ Phase.Failed → self.old.phase ≡ Phase.Failed) }
         ensures err { OnErr result (self.new.phase ≡ Phase.Failed) }
     {
         if self.request.is_some() {
