@@ -1,12 +1,12 @@
 //! A session that waits for nobody: it is fed with bytes, gives requests one after the other, is given their answers,
 //! and holds what is to be written.
 
-ghost use Rattle.std.specs.Prelude.{◌≡◌, ◌≢◌, ◌↔◌, ◌<◌, ◌≤◌, ◌++◌, [], ◌∷◌, List, map, length, take, drop, None, Some, IfOk, OnOk, OnErr, MatchOption, ⊤, Err, Ok};
+ghost use Rattle.std.specs.Prelude.{◌≡◌, ◌≢◌, ◌↔◌, ◌<◌, ◌≤◌, ◌++◌, [], map, length, drop, None, Some, IfOk, OnOk, OnErr, MatchOption, ⊤, Err, Ok};
 ghost use Rattle.std.specs.Option.{option_to_list};
 ghost use Rattle.std.specs.Result.{IsErrOf};
 ghost use Rattle.std.specs.Arc.{arc_value};
 ghost use Rattle.mcv_base.specs.Reply.{part_value};
-ghost use Rattle.mcv_text.specs.Request.{AskValue, RequestValue, asked, asking, item_value, request_value};
+ghost use Rattle.mcv_text.specs.Request.{AskValue, asking, item_value, request_value};
 ghost use Rattle.mcv_text.specs.Stream.{Awaits, Held};
 ghost use Rattle.mcv_session.specs.Exchange.{by_desk, text_of};
 ghost use Rattle.mcv_session.specs.Machine.{Fails, Feeds, History, Lived, Passes, Replies, unused};

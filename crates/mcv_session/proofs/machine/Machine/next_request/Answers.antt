@@ -1,7 +1,7 @@
 use Rattle.std.proofs.Common.{◌≡◌, ◌∙◌, [], sym, ap, subst, length, rules, arith}
 use Rattle.std.specs.Arc.{arc_value}
 use Rattle.mcv_text.specs.Request.{request_value}
-use Rattle.mcv_session.specs.declared.phase.Phase.TheVariants.{Ended, Failed, Open}
+use Rattle.mcv_session.specs.declared.phase.Phase.TheVariants.{Open}
 use Rattle.mcv_session.specs.Machine.{AsksOne, EndsOne, Passes, PassesOne}
 use Rattle.mcv_session.proofs.Life.{passes_none, passes_then, passes_passed, passes_ended, lived_failed, lived_asked}
 use Rattle.mcv_session.proofs.machine.Machine.next_request.Goals as goal
