@@ -1,11 +1,15 @@
 //! Legs in flight over one connection, by number.
 
-use crate::rows::check;
 use mcv_base::{LegId, Op, Reply, Rest};
 use mcv_pipeline::{Landed, Pipeline};
 use mcv_reply::ReplyFault;
 use std::process::Abort;
 use std::sync::Arc;
+
+/// What is wanted is so.
+fn check(rt: &impl Abort, is_so: bool, what: &str) {
+    assert!(rt; is_so, "{what}");
+}
 
 /// A connection on which gets of `a` with the numbers 1 to so many are in flight.
 fn pipeline(rt: &(impl AllocGlobal + Abort), count: u64) -> Pipeline {
@@ -13,7 +17,11 @@ fn pipeline(rt: &(impl AllocGlobal + Abort), count: u64) -> Pipeline {
     for number in 1..=count {
         let rest = Rest::of(b"a").expect(rt, "a key");
         let rest = Arc::new(rt.alloc(), rest).expect(rt, "memory");
-        check(rt, pipeline.sent(LegId(number), Op::Get, rest).is_ok(), "sent");
+        check(
+            rt,
+            pipeline.sent(LegId(number), Op::Get, rest).is_ok(),
+            "sent",
+        );
     }
     pipeline
 }
