@@ -6,7 +6,9 @@
 #![tactic(auto)]
 
 mod landed;
+mod laws;
 mod pipeline;
 
 pub use landed::Landed;
+pub use laws::legs_land_or_are_lost;
 pub use pipeline::Pipeline;
