@@ -1,5 +1,5 @@
 -- The numbers of legs beside the legs of their connection.
-use Rattle.std.proofs.Common.{◌≡◌, ◌≤◌, ◌+◌, ℕ, true, false, List, [], ◌∷◌, ◌++◌, length, map, refl, sym, ap, subst, ◌∙◌, arith, append_assoc, length-append, Option, Some, None, Result, Ok, Err}
+use Rattle.std.proofs.Common.{◌≡◌, ◌≤◌, ◌+◌, ℕ, true, false, List, [], ◌∷◌, ◌++◌, length, map, drop, refl, sym, ap, subst, ◌∙◌, arith, append_assoc, length-append, length-drop, Option, Some, None, Result, Ok, Err}
 use Rattle.std.specs.Option.{option_to_list}
 use Rattle.std.proofs.lemmas.List.{length-map, map-append, nil_from_length}
 use Rattle.mcv_base.specs.declared.request.LegId.{LegId}
@@ -74,10 +74,17 @@ pub loses_open : (c : Connection) (numbers : List LegId) → is_open c ≡ true 
 loses_open (Open legs held) numbers now = (refl, refl)
 loses_open Closed numbers now = absurd (cc)
 
-pub loses_closed : (c : Connection) (numbers left : List LegId) (found : Option LegId) → is_open c ≡ false → numbers ≡ option_to_list found ++ left → (found ≡ None → length numbers ≡ 0) → LosesFrom c numbers found left
-loses_closed (Open legs held) numbers left found now is none = absurd (cc)
-loses_closed Closed numbers left None now is none = let nil = nil_from_length numbers (none refl) in (nil, sym is ∙ nil)
-loses_closed Closed numbers left (Some number) now is none = is
+pub loses_closed : (c : Connection) (numbers left : List LegId) (found : Option LegId) → is_open c ≡ false → numbers ≡ option_to_list found ++ left → left ≡ drop 1 numbers → LosesFrom c numbers found left
+loses_closed (Open legs held) numbers left found now is rest = absurd (cc)
+loses_closed Closed numbers left None now is rest =
+    let none : length numbers ≡ 0 = omega (arith, ap length is, ap length rest, length-drop 1 numbers) in
+    let nil = nil_from_length numbers none in
+    (nil, sym is ∙ nil)
+loses_closed Closed numbers left (Some number) now is rest = is
+
+pub numbers_shut : (c : Connection) (numbers : List LegId) → is_open c ≡ false → HasNumbers numbers c
+numbers_shut (Open legs held) numbers now = absurd (cc)
+numbers_shut Closed numbers now = tt
 
 -- one more at the end
 pub map_more : {A B : Type 0} (f : A → B) (more : List A) (x : A) (rest : List B) → map f (more ++ x ∷ []) ++ rest ≡ map f more ++ f x ∷ rest

@@ -118,10 +118,9 @@ impl Pipeline {
         ensures { Loses self.old result self.new }
     {
         if self.replies.is_open() {
-            None
-        } else {
-            self.legs.pop_front()
+            return None;
         }
+        self.legs.pop_front()
     }
 
     /// How many legs are in flight; none once the connection is closed.
