@@ -6,14 +6,14 @@ use Rattle.mcv_reply.specs.Replies.{Leg, Sends}
 use Rattle.mcv_pipeline.proofs.Numbers.{numbers_more, numbers_same}
 use Rattle.mcv_pipeline.proofs.pipeline.Pipeline.sent.Goals as goal
 
-pub invariant_of-self-2 : goal.invariant_of-self-2
-invariant_of-self-2 c =
+pub invariant_of-self-in-Ok : goal.invariant_of-self-in-Ok
+invariant_of-self-in-Ok c =
     let leg : Leg = record { op = c.args.op; key = arc_value c.args.rest } in
     let is = c.push_back_reserved.ensures.items ∙ ap (λ (t : List LegId). t ++ c.args.leg ∷ []) c.reserve.ensures.items in
     subst (λ (t : List LegId). HasNumbers t c.sent.new.self) (sym is) (numbers_more c.self.inside.replies c.sent.new.self c.self.inside.legs.items c.args.leg leg c.self.invariant c.in-Ok.ensures)
 
-pub invariant_of-self-3 : goal.invariant_of-self-3
-invariant_of-self-3 c =
+pub invariant_of-self-in-Err : goal.invariant_of-self-in-Err
+invariant_of-self-in-Err c =
     let leg : Leg = record { op = c.args.op; key = arc_value c.args.rest } in
     subst (λ (t : List LegId). HasNumbers t c.sent.new.self) (sym c.reserve.ensures.items) (numbers_same c.self.inside.replies c.sent.new.self c.self.inside.legs.items leg c.in-Err.fault c.self.invariant c.in-Err.ensures)
 
