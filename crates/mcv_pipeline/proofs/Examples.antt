@@ -1,5 +1,5 @@
 -- Legs 4 and 7, a get of a and a delete of b.
-use Rattle.std.proofs.Common.{◌≡◌, ℕ, List, [], ◌∷◌, refl, Some, Ok}
+use Rattle.std.proofs.Common.{ℕ, [], ◌∷◌, refl, Some, Ok}
 use Rattle.mcv_base.specs.declared.operation.Op.TheVariants.{Get, Delete}
 use Rattle.mcv_base.specs.declared.request.LegId.{LegId}
 use Rattle.mcv_pipeline.specs.Life.{Lived}

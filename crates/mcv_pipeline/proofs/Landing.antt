@@ -1,11 +1,11 @@
 -- Replies that land.
-use Rattle.std.proofs.Common.{◌≡◌, ℕ, true, false, List, [], ◌∷◌, ◌++◌, map, refl, sym, ap, subst, ◌∙◌, append_assoc, Result, Ok, Err}
+use Rattle.std.proofs.Common.{◌≡◌, ℕ, true, false, List, [], ◌∷◌, ◌++◌, map, refl, sym, ap, subst, ◌∙◌, append_assoc, Result, Err}
 use Rattle.std.proofs.lemmas.List.{map-append}
 use Rattle.mcv_base.specs.declared.request.LegId.{LegId}
 use Rattle.mcv_base.specs.declared.reply.Reply.{Reply}
 use Rattle.mcv_base.specs.Reply.{ReplyValue, reply_value}
 use Rattle.mcv_pipeline.specs.declared.landed.Landed.{Landed}
-use Rattle.mcv_pipeline.specs.Pipeline.{PipelineValue, Lands, LandsAll, LandsOne, leg_of, reply_of, with_reply}
+use Rattle.mcv_pipeline.specs.Pipeline.{Lands, LandsAll, LandsOne, leg_of, reply_of, with_reply}
 use Rattle.mcv_reply.specs.declared.fault.ReplyFault.{ReplyFault}
 use Rattle.mcv_reply.specs.declared.fault.ReplyFault.TheVariants as faults
 use Rattle.mcv_reply.specs.Replies.{Connection, Closed, Receives, is_open}

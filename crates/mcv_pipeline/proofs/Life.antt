@@ -1,5 +1,5 @@
 -- Each step of a pipeline keeps it that each leg lands or is lost.
-use Rattle.std.proofs.Common.{◌≡◌, ◌∙◌, ◌⊎◌, inl, inr, ℕ, true, false, List, [], ◌∷◌, ◌++◌, map, refl, sym, ap, append-nil, append_assoc, Option, Some, None, Result, Ok, Err}
+use Rattle.std.proofs.Common.{◌≡◌, ◌∙◌, ◌⊎◌, inl, inr, ℕ, true, List, [], ◌∷◌, ◌++◌, map, refl, sym, ap, append-nil, append_assoc, Option, Some, None, Result, Ok, Err}
 use Rattle.std.specs.Option.{option_to_list}
 use Rattle.mcv_base.specs.declared.request.LegId.{LegId}
 use Rattle.mcv_pipeline.specs.declared.landed.Landed.{Landed}

@@ -1,6 +1,6 @@
 //! Each leg that was sent lands once or is lost once.
 
-ghost use Rattle.std.specs.Prelude.{◌≡◌, ◌++◌, ◌∷◌, [], List, ℕ, Option, Result, Ok, Err, map};
+ghost use Rattle.std.specs.Prelude.{◌++◌, ◌∷◌, [], List, ℕ, Option, Result, Ok, Err, map};
 ghost use Rattle.std.specs.Option.{option_to_list};
 ghost use Rattle.mcv_pipeline.specs.Life.{History, Lived, unlived, unused};
 ghost use Rattle.mcv_pipeline.specs.Pipeline.{Lands, Loses, PipelineValue, SendsLeg, leg_of};

@@ -1,4 +1,4 @@
-use Rattle.std.proofs.Common.{◌≡◌, ◌∙◌, ◌++◌, ◌∷◌, [], List, Ok, Err, sym, ap, subst}
+use Rattle.std.proofs.Common.{◌∙◌, ◌++◌, ◌∷◌, [], List, Ok, Err, sym, ap, subst}
 use Rattle.std.specs.Arc.{arc_value}
 use Rattle.mcv_base.specs.declared.request.LegId.{LegId}
 use Rattle.mcv_pipeline.specs.Pipeline.{HasNumbers, PipelineValue}
