@@ -1,0 +1,50 @@
+//! Where the requests for a rest begin.
+
+ghost use Rattle.std.specs.Prelude.{IfOk};
+ghost use Rattle.mcv_route.specs.View.{view};
+ghost use Rattle.mcv_mended.specs.Starts.{StartsAt};
+
+use mcv_base::{Position, Rest};
+use mcv_route::Route;
+use mcv_rules::prefix_number;
+use std::alloc::{AllocError, Global};
+
+/// A handle that all requests for a rest come to, and its place: the root, or the child that it selects by prefix. Who lays
+/// out many plans for a rest looks at the prefixes once.
+#[derive(Drop)]
+pub(crate) struct Start<'a> {
+    pub route: &'a Route,
+    pub position: Position,
+}
+
+/// Where the requests for a rest begin in a route.
+pub(crate) fn start_of<'a>(
+    alloc: Global,
+    route: &'a Route,
+    rest: &Rest,
+) -> Result<Start<'a>, AllocError>
+    ensures { IfOk result (StartsAt (view route.now) rest.now) }
+{
+    let root = Position::root(alloc);
+    if let Route::PrefixSelector { policies, wildcard } = route {
+        let number = prefix_number(policies, rest);
+        if number < policies.len() {
+            let position = root.child(alloc, number)?;
+            return Ok(Start {
+                route: &policies[number].route,
+                position,
+            });
+        }
+        if let Some(child) = wildcard {
+            let position = root.child(alloc, number)?;
+            return Ok(Start {
+                route: child,
+                position,
+            });
+        }
+    }
+    Ok(Start {
+        route,
+        position: root,
+    })
+}
