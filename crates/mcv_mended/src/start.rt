@@ -1,6 +1,6 @@
 //! Where the requests for a rest begin.
 
-ghost use Rattle.std.specs.Prelude.{IfOk};
+ghost use Rattle.std.specs.Prelude.{◌≡◌, ◌∷◌, [], IfOk};
 ghost use Rattle.mcv_route.specs.View.{view};
 ghost use Rattle.mcv_mended.specs.Starts.{StartsAt};
 
@@ -25,26 +25,30 @@ pub(crate) fn start_of<'a>(
 ) -> Result<Start<'a>, AllocError>
     ensures { IfOk result (StartsAt (view route.now) rest.now) }
 {
-    let root = Position::root(alloc);
     if let Route::PrefixSelector { policies, wildcard } = route {
         let number = prefix_number(policies, rest);
         if number < policies.len() {
-            let position = root.child(alloc, number)?;
-            return Ok(Start {
-                route: &policies[number].route,
-                position,
-            });
+            let policy = &policies[number];
+            return child_start(alloc, &policy.route, number);
         }
         if let Some(child) = wildcard {
-            let position = root.child(alloc, number)?;
-            return Ok(Start {
-                route: child,
-                position,
-            });
+            return child_start(alloc, child, number);
         }
     }
     Ok(Start {
         route,
-        position: root,
+        position: Position::root(alloc),
+    })
+}
+
+/// The child of the root with this number.
+fn child_start<'a>(alloc: Global, child: &'a Route, number: usize) -> Result<Start<'a>, AllocError>
+    ensures { IfOk result (λ start. (start.route.now ≡ child.now) × (start.position ≡ number ∷ [])) }
+{
+    let root = Position::root(alloc);
+    let position = root.child(alloc, number)?;
+    Ok(Start {
+        route: child,
+        position,
     })
 }
