@@ -1,4 +1,4 @@
-use Rattle.std.proofs.Common.{◌≡◌, ◌<◌, ◌≤◌, [], ◌∷◌, arith, length, subst, List, ℕ}
+use Rattle.std.proofs.Common.{◌≡◌, ◌<◌, ◌≤◌, [], ◌∷◌, arith, length, subst, List, ℕ, Option}
 use Rattle.std.proofs.lemmas.Result.{IfOk-weaker}
 use Rattle.mcv_base.specs.declared.operation.Op.{Op}
 use Rattle.mcv_route.specs.Children.{prefix_policy}
