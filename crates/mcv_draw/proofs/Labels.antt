@@ -1,17 +1,20 @@
 -- What stands in a box and on an edge, handle by handle.
-use Rattle.std.proofs.Common.{◌≡◌, ◌==◌, ◌++◌, ℕ, List, [], Option, ap, codes, cond, map}
-use Rattle.std.specs.Prelude.{Box, Vec, decimal, if◌then◌else◌, slice_get}
+use Rattle.std.proofs.Common.{◌≡◌, ◌∙◌, ◌==◌, ◌++◌, ℕ, List, [], Option, Some, None, Bor, ap, codes, cond, map, refl, sym}
+use Rattle.std.specs.Prelude.{Box, Vec, decimal, if◌then◌else◌, option_map, slice_get}
+use Rattle.std.specs.Slice.{IsItemAt}
+use Rattle.std.proofs.lemmas.Option.{slice_get-map}
 use Rattle.std.specs.declared.alloc.Global.{Global}
 use Rattle.mcv_names.specs.declared.handle.Many.{Many as Kind}
 use Rattle.mcv_route.specs.Tree.{Tree}
-use Rattle.mcv_route.specs.View.{operation_view, pool_view, prefix_view, shadow_view, view}
+use Rattle.mcv_route.specs.View.{OperationView, PrefixView, ShadowView, operation_view, pool_view, prefix_view, shadow_view, view}
 use Rattle.mcv_route.specs.declared.tree.Leaf.{Leaf}
-use Rattle.mcv_route.specs.declared.tree.OperationPolicy.{OperationPolicy}
-use Rattle.mcv_route.specs.declared.tree.PrefixPolicy.{PrefixPolicy}
+use Rattle.mcv_route.specs.declared.tree.OperationPolicy.{OperationPolicy, out-OperationPolicy}
+use Rattle.mcv_route.specs.declared.tree.PrefixPolicy.{PrefixPolicy, out-PrefixPolicy}
 use Rattle.mcv_route.specs.declared.tree.Route.{Route}
 use Rattle.mcv_route.specs.declared.tree.Route.TheVariants.{Pool, Null, Error, Many, WarmUp, Migrate, PrefixSelector, OperationSelector}
-use Rattle.mcv_route.specs.declared.tree.Shadow.{Shadow}
-use Rattle.mcv_route.proofs.Views.{view-Pool, view-Null, view-Error, view-Many, view-WarmUp, view-Migrate, view-PrefixSelector, view-OperationSelector}
+use Rattle.mcv_route.specs.declared.tree.Shadow.{Shadow, out-Shadow}
+use Rattle.mcv_draw.proofs.LegsInOrder.{leg_at}
+use Rattle.mcv_route.proofs.Views.{operation_view-out, prefix_view-out, shadow_view-out, view-Pool, view-Null, view-Error, view-Many, view-WarmUp, view-Migrate, view-PrefixSelector, view-OperationSelector}
 use Rattle.mcv_draw.specs.Label.{child_word, exptime_words, handle_name, many_name, migration_words, operation_word, own_words, pool_words, prefix_word, shadow_word}
 
 -- ---- names
@@ -91,3 +94,48 @@ worded_prefix_selector v d k = ap (λ (t : Tree). child_word t k) (view-PrefixSe
 
 pub worded_operation_selector : (v : Vec OperationPolicy Global) (d : Option (Box Route Global)) (k : ℕ) → child_word (view (OperationSelector v d)) k ≡ operation_word (slice_get (map (λ p. p.0) (map operation_view v.items)) k)
 worded_operation_selector v d k = ap (λ (t : Tree). child_word t k) (view-OperationSelector v d)
+
+-- ---- policies and shadows by their numbers
+
+-- what is found at a place of a list, by a part of it
+got_part : {X Y Z : Type 0} (f : X → Y) (g : Y → Z) (xs : List X) (k : ℕ) (got : Option (Bor X)) → IsItemAt xs k got → option_map (λ x. g (f x.now)) got ≡ slice_get (map g (map f xs)) k
+got_part f g xs k got is = by_case got ∙ (ap (λ o. option_map g (option_map f o)) (leg_at xs k got is) ∙ (ap (option_map g) (sym (slice_get-map f xs k)) ∙ sym (slice_get-map g (map f xs) k)))
+  where
+    by_case : (o : Option (Bor X)) → option_map (λ x. g (f x.now)) o ≡ option_map g (option_map f (option_map (λ x. x.now) o))
+    by_case None = refl
+    by_case (Some x) = refl
+
+pub shadow_there : (route : Route) (leaf : Leaf) (v : Vec Shadow Global) (items : List Shadow) (k : ℕ) (got : Option (Bor Shadow)) → route ≡ Pool leaf v → items ≡ v.items → IsItemAt items k got
+    → shadow_word (option_map (λ s. (shadow_view s.now).0) got) ≡ child_word (view route) k
+shadow_there route leaf v items k got is same there =
+    ap shadow_word (got_part shadow_view (λ s. s.0) items k got there)
+    ∙ (ap (λ (xs : List Shadow). shadow_word (slice_get (map (λ s. s.0) (map shadow_view xs)) k)) same
+    ∙ (sym (worded_pool leaf v k) ∙ ap (λ (r : Route). child_word (view r) k) (sym is)))
+
+pub prefix_there : (route : Route) (v : Vec PrefixPolicy Global) (d : Option (Box Route Global)) (items : List PrefixPolicy) (k : ℕ) (got : Option (Bor PrefixPolicy)) → route ≡ PrefixSelector v d
+    → items ≡ v.items → IsItemAt items k got → prefix_word (option_map (λ p. (prefix_view p.now).0) got) ≡ child_word (view route) k
+prefix_there route v d items k got is same there =
+    ap prefix_word (got_part prefix_view (λ p. p.0) items k got there)
+    ∙ (ap (λ (xs : List PrefixPolicy). prefix_word (slice_get (map (λ p. p.0) (map prefix_view xs)) k)) same
+    ∙ (sym (worded_prefix_selector v d k) ∙ ap (λ (r : Route). child_word (view r) k) (sym is)))
+
+pub operation_there : (route : Route) (v : Vec OperationPolicy Global) (d : Option (Box Route Global)) (items : List OperationPolicy) (k : ℕ) (got : Option (Bor OperationPolicy)) → route ≡ OperationSelector v d
+    → items ≡ v.items → IsItemAt items k got → operation_word (option_map (λ p. (operation_view p.now).0) got) ≡ child_word (view route) k
+operation_there route v d items k got is same there =
+    ap operation_word (got_part operation_view (λ p. p.0) items k got there)
+    ∙ (ap (λ (xs : List OperationPolicy). operation_word (slice_get (map (λ p. p.0) (map operation_view xs)) k)) same
+    ∙ (sym (worded_operation_selector v d k) ∙ ap (λ (r : Route). child_word (view r) k) (sym is)))
+
+-- ---- parts of them
+
+pub shadow_first : (s : Shadow) → (shadow_view s).0.first ≡ (out-Shadow s).first
+shadow_first s = ap (λ (v : ShadowView). v.0.first) (shadow_view-out s)
+
+pub shadow_last : (s : Shadow) → (shadow_view s).0.last ≡ (out-Shadow s).last
+shadow_last s = ap (λ (v : ShadowView). v.0.last) (shadow_view-out s)
+
+pub policy_prefix : (p : PrefixPolicy) → (prefix_view p).0 ≡ (out-PrefixPolicy p).«prefix».items
+policy_prefix p = ap (λ (v : PrefixView). v.0) (prefix_view-out p)
+
+pub policy_operation : (p : OperationPolicy) → (operation_view p).0 ≡ (out-OperationPolicy p).op
+policy_operation p = ap (λ (v : OperationView). v.0) (operation_view-out p)

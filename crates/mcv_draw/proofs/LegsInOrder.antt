@@ -165,6 +165,6 @@ sorted_by_steps {g = g} {f = f} xs sorts answers =
     sorts (λ (x y : List ℕ). is_lt (list_cmp x y)) (ranks_by nat_list_cmp_total (λ (x : List ℕ). x))
     (always_returns_same g (λ a r. is_lt r ≡ is_lt (list_cmp a.0.now a.1.0.now)) f (λ a r f' k. (ap is_lt (answers a r f' k).0, (answers a r f' k).1)))
 
-pub leg_at : (xs : List (List ℕ)) (i : ℕ) (r : Option (Bor (List ℕ))) → IsItemAt xs i r → option_map (λ x. x.now) r ≡ slice_get xs i
+pub leg_at : {X : Type 0} (xs : List X) (i : ℕ) (r : Option (Bor X)) → IsItemAt xs i r → option_map (λ x. x.now) r ≡ slice_get xs i
 leg_at xs i None is = sym (slice_get_past xs i is.3)
 leg_at xs i (Some x) is = sym (slice_get-get_or xs i x.now is.3.0 ∙ ap Some (sym is.1))

@@ -11,7 +11,7 @@ use mcv_route::{OperationPolicy, PrefixPolicy, Route, Shadow};
 use std::alloc::{AllocError, Global};
 
 /// The word of the edge to child `number`.
-#[tactic(auto, using(crate::proofs::Labels::worded_pool, crate::proofs::Labels::worded_null, crate::proofs::Labels::worded_error, crate::proofs::Labels::worded_many, crate::proofs::Labels::worded_warm_up, crate::proofs::Labels::worded_migrate, crate::proofs::Labels::worded_prefix_selector, crate::proofs::Labels::worded_operation_selector))]
+#[tactic(auto, using(crate::proofs::Labels::worded_null, crate::proofs::Labels::worded_error, crate::proofs::Labels::worded_many, crate::proofs::Labels::worded_warm_up, crate::proofs::Labels::worded_migrate))]
 pub(crate) fn word_of(alloc: Global, route: &Route, number: usize) -> Result<Vec<u8>, AllocError>
     ensures { IfOk result (λ word. word.items ≡ child_word (view route.now) number) }
 {
@@ -28,16 +28,17 @@ pub(crate) fn word_of(alloc: Global, route: &Route, number: usize) -> Result<Vec
 }
 
 /// The word of a shadow: the indexes of which it gets copies.
+#[tactic(auto, using(crate::proofs::Labels::shadow_first, crate::proofs::Labels::shadow_last))]
 fn shadow_word(alloc: Global, shadow: Option<&Shadow>) -> Result<Vec<u8>, AllocError>
     ensures { IfOk result (λ word. word.items ≡ shadow_word (option_map (λ s. (shadow_view s.now).0) shadow.entry)) }
 {
-    let mut word = Vec::from_slice(alloc, b"shadow")?;
-    if let Some(shadow) = shadow {
-        word.extend_from_slice(b" ")?;
-        push_number(&mut word, shadow.first as usize)?;
-        word.extend_from_slice(b"-")?;
-        push_number(&mut word, shadow.last as usize)?;
-    }
+    let Some(shadow) = shadow else {
+        return Vec::from_slice(alloc, b"shadow");
+    };
+    let mut word = Vec::from_slice(alloc, b"shadow ")?;
+    push_number(&mut word, shadow.first as usize)?;
+    word.extend_from_slice(b"-")?;
+    push_number(&mut word, shadow.last as usize)?;
     Ok(word)
 }
 
@@ -60,18 +61,20 @@ fn migrate_word(alloc: Global, number: usize) -> Result<Vec<u8>, AllocError>
 }
 
 /// The word of a policy of a prefix, or that of the route behind all.
+#[tactic(auto, using(crate::proofs::Labels::policy_prefix))]
 fn prefix_word(alloc: Global, policy: Option<&PrefixPolicy>) -> Result<Vec<u8>, AllocError>
     ensures { IfOk result (λ word. word.items ≡ prefix_word (option_map (λ p. (prefix_view p.now).0) policy.entry)) }
 {
+    let Some(policy) = policy else {
+        return Vec::from_slice(alloc, b"wildcard");
+    };
     let mut word = Vec::new(alloc);
-    match policy {
-        Some(policy) => push_escaped(&mut word, policy.prefix.as_slice())?,
-        None => word.extend_from_slice(b"wildcard")?,
-    }
+    push_escaped(&mut word, policy.prefix.as_slice())?;
     Ok(word)
 }
 
 /// The word of a policy of an operation, or that of the route behind all.
+#[tactic(auto, using(crate::proofs::Labels::policy_operation))]
 fn operation_word(alloc: Global, policy: Option<&OperationPolicy>) -> Result<Vec<u8>, AllocError>
     ensures { IfOk result (λ word. word.items ≡ operation_word (option_map (λ p. (operation_view p.now).0) policy.entry)) }
 {
