@@ -1,7 +1,6 @@
 -- What is drawn, as a walk makes it: the next handle, then its children before all else.
 use Rattle.std.proofs.Common.{◌≡◌, ◌∙◌, ◌<◌, ◌≤◌, ◌+◌, ℕ, zero, suc, Bool, true, false, cond, List, [], ◌∷◌, ◌++◌, Option, Some, None, add-zero, add_assoc, ap, append_assoc, arith, is_some, length, length-append, map, refl, subst, sym}
-use Rattle.std.specs.Prelude.{reverse}
-use Rattle.std.proofs.lemmas.List.{append-nil, map-append, reverse-append}
+use Rattle.std.proofs.lemmas.List.{append-nil, map-append}
 use Rattle.std.proofs.lemmas.List.Sums.{count_by-le-length, sum_by-append}
 use Rattle.mcv_route.specs.Places.{child_at, children_of}
 use Rattle.mcv_route.specs.Tree.{Tree, Trees, pool, null, error, many, warm_up, migrate, prefix_selector, operation_selector, none, child}
@@ -9,12 +8,16 @@ use Rattle.mcv_draw.specs.Children.{drawn_children, from_child, tree_count}
 use Rattle.mcv_draw.specs.Drawn.{BranchValue, DrawingValue, behind, branch_to, drawn, drawn_each, element, next_row, top}
 use Rattle.mcv_draw.specs.Element.{ElementValue, rows_of}
 use Rattle.mcv_draw.specs.Marks.{MarksValue}
-use Rattle.mcv_draw.specs.Walk.{HandleValue, children_back, handles_from}
+use Rattle.mcv_draw.specs.Walk.{HandleValue, children_back, handles_back}
+
+-- a handle, and how it hangs
+abbrev pub handle : BranchValue → Tree → HandleValue
+handle b t = record { branch = b; tree = t }
+
+pub same_handle : (a b : BranchValue) (t : Tree) → a ≡ b → handle a t ≡ handle b t
+same_handle a b t same = ap (λ (x : BranchValue). handle x t) same
 
 -- ---- rows
-
-has_row : ElementValue → ℕ
-has_row e = cond (is_some e.row) 1 0
 
 pub rows-append : (es fs : List ElementValue) → rows_of (es ++ fs) ≡ rows_of es + rows_of fs
 rows-append es fs = sum_by-append (λ (e : ElementValue). cond (is_some e.row) 1 0) es fs
@@ -70,19 +73,18 @@ still_last d (y ∷ ys) x row =
     ∙ (ap (λ (n : ℕ). (now ++ later) ++ drawn d y.branch n y.tree) (behind_both row now later)
     ∙ append_assoc now later (drawn d y.branch (behind (behind row now) later) y.tree))
 
--- the children of a handle, the last one first, before what was to be drawn already
+-- the children of a handle, the last one first, behind what was to be drawn already
 pub still_children : (d : DrawingValue) (xs : List HandleValue) (branches : ℕ → BranchValue) (row k : ℕ) (ts : Trees)
-    → still d (xs ++ reverse (handles_from branches k ts)) row ≡ drawn_each d branches row k ts ++ still d xs (behind row (drawn_each d branches row k ts))
+    → still d (xs ++ handles_back branches k ts) row ≡ drawn_each d branches row k ts ++ still d xs (behind row (drawn_each d branches row k ts))
 still_children d xs branches row k none =
     ap (λ (hs : List HandleValue). still d hs row) (append-nil xs) ∙ ap (λ (n : ℕ). still d xs n) (sym (add-zero row))
 still_children d xs branches row k (child t ts) =
-    let x : HandleValue = record { branch = branches k; tree = t } in
-    let others : List HandleValue = handles_from branches (suc k) ts in
+    let x : HandleValue = handle (branches k) t in
+    let others : List HandleValue = handles_back branches (suc k) ts in
     let now : List ElementValue = drawn d (branches k) row t in
     let later : List ElementValue = drawn_each d branches (behind row now) (suc k) ts in
-    let shape : xs ++ reverse (x ∷ others) ≡ (xs ++ reverse others) ++ x ∷ [] = ap (λ (hs : List HandleValue). xs ++ hs) (reverse-append (x ∷ []) others) ∙ sym (append_assoc xs (reverse others) (x ∷ [])) in
-    ap (λ (hs : List HandleValue). still d hs row) shape
-    ∙ (still_last d (xs ++ reverse others) x row
+    ap (λ (hs : List HandleValue). still d hs row) (sym (append_assoc xs others (x ∷ [])))
+    ∙ (still_last d (xs ++ others) x row
     ∙ (ap (λ (es : List ElementValue). now ++ es) (still_children d xs branches (behind row now) (suc k) ts)
     ∙ (sym (append_assoc now later (still d xs (behind (behind row now) later)))
     ∙ ap (λ (n : ℕ). (now ++ later) ++ still d xs n) (sym (behind_both row now later)))))
@@ -131,13 +133,14 @@ fewer d old new before front after x is added left =
 -- where no handle is left, all is drawn
 pub all_drawn : (d : DrawingValue) (left : List HandleValue) (es whole : List ElementValue) (row : ℕ) → left ≡ [] → es ++ still d left row ≡ whole → es ≡ whole
 all_drawn d left es whole row none_left said =
-    sym (append-nil es) ∙ (ap (λ (fs : List ElementValue). es ++ fs) (sym (ap (λ (hs : List HandleValue). still d hs row) none_left ∙ still_none d row)) ∙ said)
+    let none_to_come : still d left row ≡ [] = ap (λ (hs : List HandleValue). still d hs row) none_left ∙ still_none d row in
+    sym (append-nil es) ∙ (ap (λ (fs : List ElementValue). es ++ fs) (sym none_to_come) ∙ said)
 
 -- the first handle
-pub first_handle : (d : DrawingValue) (es : List ElementValue) (hs : List HandleValue) (b : BranchValue) (t : Tree) → hs ≡ record { branch = b; tree = t } ∷ []
+pub first_handle : (d : DrawingValue) (es : List ElementValue) (hs : List HandleValue) (b : BranchValue) (t : Tree) → hs ≡ handle b t ∷ []
     → es ++ still d hs (rows_of es) ≡ es ++ drawn d b (rows_of es) t
 first_handle d es hs b t is =
-    ap (λ (fs : List ElementValue). es ++ fs) (ap (λ (xs : List HandleValue). still d xs (rows_of es)) is ∙ still_one d (record { branch = b; tree = t }) (rows_of es))
+    ap (λ (fs : List ElementValue). es ++ fs) (ap (λ (xs : List HandleValue). still d xs (rows_of es)) is ∙ still_one d (handle b t) (rows_of es))
 
 -- ---- children, the last one first
 
@@ -176,23 +179,22 @@ no_child_missing t k low is = there (drawn_children t) k low (sym (same_child t 
 
 -- the children from a number on, the last one first, as they are pushed
 abbrev pub pushed_from : (branches : ℕ → BranchValue) → ℕ → Tree → List HandleValue
-pushed_from branches k t = reverse (handles_from branches k (from_child k (drawn_children t)))
+pushed_from branches k t = handles_back branches k (from_child k (drawn_children t))
 
 -- before the last child nothing is pushed
 pub none_pushed : (branches : ℕ → BranchValue) (t : Tree) (n : ℕ) (xs : List HandleValue) → n ≡ tree_count (drawn_children t) → xs ≡ xs ++ pushed_from branches n t
 none_pushed branches t n xs is =
     let behind_all : from_child n (drawn_children t) ≡ none = ap (λ (k : ℕ). from_child k (drawn_children t)) is ∙ none_from (drawn_children t) in
-    sym (ap (λ (ts : Trees). xs ++ reverse (handles_from branches n ts)) behind_all ∙ append-nil xs)
+    sym (ap (λ (ts : Trees). xs ++ handles_back branches n ts) behind_all ∙ append-nil xs)
 
 -- the child before those that were pushed
 pub one_pushed : (branches : ℕ → BranchValue) (t u : Tree) (k : ℕ) (old before now : List HandleValue) → k < tree_count (drawn_children t) → child_at (children_of t) k ≡ Some u
-    → before ≡ old ++ pushed_from branches (suc k) t → now ≡ before ++ record { branch = branches k; tree = u } ∷ [] → now ≡ old ++ pushed_from branches k t
+    → before ≡ old ++ pushed_from branches (suc k) t → now ≡ before ++ handle (branches k) u ∷ [] → now ≡ old ++ pushed_from branches k t
 one_pushed branches t u k old before now low is so_far pushed =
-    let x : HandleValue = record { branch = branches k; tree = u } in
-    let later : List HandleValue = handles_from branches (suc k) (from_child (suc k) (drawn_children t)) in
+    let x : HandleValue = handle (branches k) u in
+    let later : List HandleValue = handles_back branches (suc k) (from_child (suc k) (drawn_children t)) in
     let here : from_child k (drawn_children t) ≡ child u (from_child (suc k) (drawn_children t)) = one_from (drawn_children t) k u (sym (same_child t k low) ∙ is) in
-    pushed ∙ (ap (λ (hs : List HandleValue). hs ++ x ∷ []) so_far ∙ (append_assoc old (reverse later) (x ∷ [])
-    ∙ ap (λ (hs : List HandleValue). old ++ hs) (sym (ap (λ (ts : Trees). reverse (handles_from branches k ts)) here ∙ reverse-append (x ∷ []) later))))
+    pushed ∙ (ap (λ (hs : List HandleValue). hs ++ x ∷ []) so_far ∙ (append_assoc old later (x ∷ []) ∙ ap (λ (ts : Trees). old ++ handles_back branches k ts) (sym here)))
 
 -- ---- what is kept, as it is seen
 

@@ -13,13 +13,13 @@ same_leads xs ys same = fun_ext (λ (p : List ℕ). sym (list_any-IsPermutation 
 same_ones : (xs ys : List (List ℕ)) → IsPermutation xs ys → is_one_of ys ≡ is_one_of xs
 same_ones xs ys same = fun_ext (λ (p : List ℕ). sym (list_any-IsPermutation (λ leg. bytes_eq leg p) xs ys same))
 
+-- marks, test by test
+abbrev marks_with : (deletes readable shown : List ℕ → Bool) → Option (List ℕ) → MarksValue
+marks_with deletes readable shown lost = record { deletes = deletes; readable = readable; shown = shown; lost = is_leaf lost }
+
 pub same_marks : (deletes ds readable rs shown ss : List (List ℕ)) (lost : Option (List ℕ)) → IsPermutation deletes ds → IsPermutation readable rs → IsPermutation shown ss
     → marks_by ds rs ss lost ≡ marks_by deletes readable shown lost
 same_marks deletes ds readable rs shown ss lost first second third =
-    let D : List ℕ → Bool = leads_to deletes in
-    ap (λ (f : List ℕ → Bool). of f (is_one_of rs) (leads_to ss)) (same_leads deletes ds first)
-    ∙ (ap (λ (f : List ℕ → Bool). of D f (leads_to ss)) (same_ones readable rs second)
-    ∙ ap (λ (f : List ℕ → Bool). of D (is_one_of readable) f) (same_leads shown ss third))
-  where
-    of : (d r s : List ℕ → Bool) → MarksValue
-    of d r s = record { deletes = d; readable = r; shown = s; lost = is_leaf lost }
+    ap (λ (f : List ℕ → Bool). marks_with f (is_one_of rs) (leads_to ss) lost) (same_leads deletes ds first)
+    ∙ (ap (λ (f : List ℕ → Bool). marks_with (leads_to deletes) f (leads_to ss) lost) (same_ones readable rs second)
+    ∙ ap (λ (f : List ℕ → Bool). marks_with (leads_to deletes) (is_one_of readable) f lost) (same_leads shown ss third))

@@ -57,16 +57,14 @@ abbrev mutual
   drawn d b row null = element d b row null ∷ []
   drawn d b row error = element d b row error ∷ []
   drawn d b row (many kind ts) = element d b row (many kind ts) ∷ drawn_each d (branch_to d.marks b row (many kind ts)) (next_row d b row (many kind ts)) 0 ts
-  drawn d b row (warm_up cold warm exptime) =
-      let handle : Tree = warm_up cold warm exptime in
-      let branches : ℕ → BranchValue = branch_to d.marks b row handle in
-      let first : List ElementValue = drawn d (branches 0) (next_row d b row handle) cold in
-      element d b row handle ∷ (first ++ drawn d (branches 1) (behind (next_row d b row handle) first) warm)
-  drawn d b row (migrate from to start interval) =
-      let handle : Tree = migrate from to start interval in
-      let branches : ℕ → BranchValue = branch_to d.marks b row handle in
-      let first : List ElementValue = drawn d (branches 0) (next_row d b row handle) from in
-      element d b row handle ∷ (first ++ drawn d (branches 1) (behind (next_row d b row handle) first) to)
+  drawn d b row (warm_up cold warm exptime) = element d b row (warm_up cold warm exptime)
+      ∷ (drawn d (branch_to d.marks b row (warm_up cold warm exptime) 0) (next_row d b row (warm_up cold warm exptime)) cold
+      ++ drawn d (branch_to d.marks b row (warm_up cold warm exptime) 1)
+      (behind (next_row d b row (warm_up cold warm exptime)) (drawn d (branch_to d.marks b row (warm_up cold warm exptime) 0) (next_row d b row (warm_up cold warm exptime)) cold)) warm)
+  drawn d b row (migrate from to start interval) = element d b row (migrate from to start interval)
+      ∷ (drawn d (branch_to d.marks b row (migrate from to start interval) 0) (next_row d b row (migrate from to start interval)) from
+      ++ drawn d (branch_to d.marks b row (migrate from to start interval) 1)
+      (behind (next_row d b row (migrate from to start interval)) (drawn d (branch_to d.marks b row (migrate from to start interval) 0) (next_row d b row (migrate from to start interval)) from)) to)
   drawn d b row (prefix_selector prefixes ts) =
       element d b row (prefix_selector prefixes ts) ∷ drawn_each d (branch_to d.marks b row (prefix_selector prefixes ts)) (next_row d b row (prefix_selector prefixes ts)) 0 ts
   drawn d b row (operation_selector ops ts) =

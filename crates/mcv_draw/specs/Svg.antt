@@ -109,7 +109,7 @@ element_text e = group_words (identifier e) (inside e e.row)
 
 -- the line of a number, below the rows
 unfoldable pub note : (rows number : ℕ) → List ℕ → List ℕ
-note rows number text = text_words (codes "16") (decimal (top_of rows + 36 * at_most number + 18)) (xml_text text)
+note rows number text = text_words (codes "16") (decimal (top_of rows + 20 * at_most number + 18)) (xml_text text)
 
 abbrev pub notes_from : (rows number : ℕ) → List (List ℕ) → List ℕ
 notes_from rows number [] = []
@@ -129,7 +129,7 @@ widest_note texts = fold (λ width text. max width (16 + text_width text)) 0 tex
 
 -- what comes before the elements
 abbrev pub head : List ElementValue → (notes : List (List ℕ)) → List ℕ
-head es notes = head_words (decimal (max (widest es) (widest_note notes) + 16)) (decimal (top_of (rows_of es) + 36 * at_most (length notes) + 16))
+head es notes = head_words (decimal (max (widest es) (widest_note notes) + 16)) (decimal (top_of (rows_of es) + 20 * at_most (length notes) + 16))
 
 -- the elements, each in its row, and the notes below them
 abbrev pub svg : List ElementValue → (notes : List (List ℕ)) → List ℕ

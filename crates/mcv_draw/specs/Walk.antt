@@ -1,5 +1,5 @@
 -- What the code's values mean: pictures, and handles that are still to be drawn.
-use Rattle.std.specs.Prelude.{ℕ, suc, List, [], ◌∷◌, ◌++◌, map, reverse}
+use Rattle.std.specs.Prelude.{ℕ, suc, List, [], ◌∷◌, ◌++◌, map}
 use Rattle.mcv_route.specs.Tree.{Tree, Trees, none, child}
 use Rattle.mcv_route.specs.View.{view}
 use Rattle.mcv_draw.specs.Children.{drawn_children}
@@ -28,11 +28,11 @@ pub record HandleValue : Type 0 where
 abbrev pub handle_of : Pending → HandleValue
 handle_of x = record { branch = branch_of x.branch; tree = view x.route.now }
 
--- the children from number k on, each of which hangs by its branch
-abbrev pub handles_from : (branches : ℕ → BranchValue) → ℕ → Trees → List HandleValue
-handles_from branches k none = []
-handles_from branches k (child t ts) = record { branch = branches k; tree = t } ∷ handles_from branches (suc k) ts
+-- the children from number k on, each of which hangs by its branch, the last one first
+abbrev pub handles_back : (branches : ℕ → BranchValue) → ℕ → Trees → List HandleValue
+handles_back branches k none = []
+handles_back branches k (child t ts) = handles_back branches (suc k) ts ++ (record { branch = branches k; tree = t }) ∷ []
 
 -- the children that are drawn of a handle in a row, the last one first
 abbrev pub children_back : MarksValue → BranchValue → (row : ℕ) → Tree → List HandleValue
-children_back m b row t = reverse (handles_from (branch_to m b row t) 0 (drawn_children t))
+children_back m b row t = handles_back (branch_to m b row t) 0 (drawn_children t)

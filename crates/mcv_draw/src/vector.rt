@@ -42,7 +42,7 @@ fn push_size(
     ensures { OnOk result (text.new.items ≡ text.old.items ++ head (elements_of picture.now) (map (λ n. n.items) notes.now)) }
 {
     let width = widest_element(alloc, picture.elements.as_slice())?.max(widest_note(notes));
-    let height = top_of(picture.rows) + 36 * at_most(notes.len());
+    let height = top_of(picture.rows) + 20 * at_most(notes.len());
     let width = number_text(alloc, width + 16)?;
     let height = number_text(alloc, height + 16)?;
     push_head(text, width.as_slice(), height.as_slice())
@@ -333,7 +333,7 @@ fn push_note(
 ) -> Result<(), AllocError>
     ensures { OnOk result (text.new.items ≡ text.old.items ++ note rows number said.now) }
 {
-    let y = number_text(alloc, top_of(rows) + 36 * at_most(number) + 18)?;
+    let y = number_text(alloc, top_of(rows) + 20 * at_most(number) + 18)?;
     let said = xml_of(alloc, said)?;
     push_text(text, b"16", y.as_slice(), said.as_slice())
 }

@@ -25,7 +25,7 @@ node [shape=box fontname=monospace];
 
 /// A handle alone, and a note that could be taken for markup.
 const PICTURE: &str = "\
-<svg xmlns=\"http://www.w3.org/2000/svg\" width=\"120\" height=\"104\" font-family=\"monospace\" font-size=\"13\">
+<svg xmlns=\"http://www.w3.org/2000/svg\" width=\"120\" height=\"88\" font-family=\"monospace\" font-size=\"13\">
 <rect width=\"100%\" height=\"100%\" fill=\"#ffffff\"/>
 <g id=\"r0p-\">
 <rect x=\"16\" y=\"16\" width=\"88\" height=\"26\" rx=\"4\" fill=\"#ffffff\" stroke=\"#555555\" stroke-width=\"1\"/>

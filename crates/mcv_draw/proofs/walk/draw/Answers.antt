@@ -1,19 +1,18 @@
 use Rattle.std.proofs.Common.{◌≡◌, ◌∙◌, ◌∷◌, ◌++◌, [], List, ap, arith, map, refl, vec_len}
 use Rattle.mcv_route.specs.View.{view}
-use Rattle.mcv_draw.specs.Drawn.{BranchValue, top}
+use Rattle.mcv_draw.specs.Drawn.{top}
 use Rattle.mcv_draw.specs.Element.{rows_of}
-use Rattle.mcv_draw.specs.Walk.{HandleValue, drawing_of, elements_of, handle_of}
-use Rattle.mcv_draw.proofs.DrawnInTurn.{all_drawn, fewer, first_handle, none_seen, seen_last, turn}
+use Rattle.mcv_draw.specs.Walk.{branch_of, drawing_of, elements_of, handle_of}
+use Rattle.mcv_draw.proofs.DrawnInTurn.{all_drawn, fewer, first_handle, handle, none_seen, same_handle, seen_last, turn}
 use Rattle.mcv_draw.proofs.walk.draw.Goals as goal
 
 pub loop-next-init : goal.loop-next-init
 loop-next-init c =
     let tree = view c.args.route.now in
-    let first : HandleValue = record { branch = top; tree = tree } in
-    let same = ap (λ (b : BranchValue). let h : HandleValue = record { branch = b; tree = tree } in h) c.top-branch.ensures in
-    let one = seen_last handle_of c.new-pending.result.items c.push.new.self.items _ first c.in_ok-push.ensures.items same in
+    let one =
+    seen_last handle_of c.new-pending.result.items c.push.new.self.items _ (handle top tree) c.in_ok-push.ensures.items (same_handle (branch_of c.top-branch.result) top tree c.top-branch.ensures) in
     first_handle (drawing_of c.args.drawing.now) (elements_of c.args.picture.now) (map handle_of c.push.new.self.items) top tree
-    (one ∙ ap (λ xs. map handle_of xs ++ first ∷ []) c.new-pending.ensures.items)
+    (one ∙ ap (λ xs. map handle_of xs ++ handle top tree ∷ []) c.new-pending.ensures.items)
 
 pub loop-next-preserved : goal.loop-next-preserved
 loop-next-preserved c =

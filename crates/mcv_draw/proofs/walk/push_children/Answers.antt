@@ -1,9 +1,9 @@
 use Rattle.std.proofs.Common.{◌≡◌, ◌-◌, ◌++◌, ℕ, suc, arith, map, subst, sym, ap}
 use Rattle.mcv_route.specs.View.{view}
-use Rattle.mcv_draw.specs.Drawn.{BranchValue, branch_to}
+use Rattle.mcv_draw.specs.Drawn.{branch_to}
 use Rattle.mcv_draw.specs.Marks.{marks_of}
-use Rattle.mcv_draw.specs.Walk.{HandleValue, branch_of, handle_of}
-use Rattle.mcv_draw.proofs.DrawnInTurn.{no_child_missing, none_pushed, one_pushed, pushed_from, seen_last}
+use Rattle.mcv_draw.specs.Walk.{branch_of, handle_of}
+use Rattle.mcv_draw.proofs.DrawnInTurn.{handle, no_child_missing, none_pushed, one_pushed, pushed_from, same_handle, seen_last}
 use Rattle.mcv_draw.proofs.walk.push_children.Goals as goal
 
 pub loop-number-init : goal.loop-number-init
@@ -24,12 +24,11 @@ loop-number-preserved c =
     let k = c.loop-number.number - 1 in
     let next : c.loop-number.number ≡ suc k = omega arith in
     let so_far = subst (λ (m : ℕ). map handle_of c.loop-number.pending.items ≡ old ++ pushed_from branches m tree) next c.loop-number.invariant.pushed in
-    let one : HandleValue = record { branch = branches k; tree = view c.in-Some.route.now } in
-    let same = ap (λ (b : BranchValue). let h : HandleValue = record { branch = b; tree = view c.in-Some.route.now } in h) c.in_ok-branch.ensures in
+    let same = same_handle (branch_of c.in_ok-branch.branch) (branches k) (view c.in-Some.route.now) c.in_ok-branch.ensures in
     record {
       within = omega (arith, c.loop-number.invariant.within);
       pushed = one_pushed branches tree (view c.in-Some.route.now) k old (map handle_of c.loop-number.pending.items) (map handle_of c.push.new.self.items) (omega (arith, c.loop-number.invariant.within))
-          (sym c.in-Some.ensures) so_far (seen_last handle_of c.loop-number.pending.items c.push.new.self.items _ one c.in_ok-push.ensures.items same);
+          (sym c.in-Some.ensures) so_far (seen_last handle_of c.loop-number.pending.items c.push.new.self.items _ (handle (branches k) (view c.in-Some.route.now)) c.in_ok-push.ensures.items same);
     }
 
 pub returns-in_default : goal.returns-in_default
