@@ -1,9 +1,10 @@
 -- What stands in a box and on an edge, handle by handle.
-use Rattle.std.proofs.Common.{◌≡◌, ◌∙◌, ◌==◌, ◌++◌, ℕ, List, [], Option, Some, None, Bor, ap, codes, cond, map, refl, sym}
+use Rattle.std.proofs.Common.{◌≡◌, ◌∙◌, ◌==◌, ◌++◌, ℕ, List, [], Option, Some, None, Bor, ◌∷◌, ap, arith, codes, cond, length, map, min, refl, sym, take}
 use Rattle.std.specs.Prelude.{Box, Vec, decimal, if◌then◌else◌, option_map, slice_get}
 use Rattle.std.specs.Slice.{IsItemAt}
 use Rattle.std.proofs.lemmas.Option.{slice_get-map}
 use Rattle.std.specs.declared.alloc.Global.{Global}
+use Rattle.mcv_base.specs.declared.request.ServerId.{ServerId}
 use Rattle.mcv_names.specs.declared.handle.Many.{Many as Kind}
 use Rattle.mcv_route.specs.Tree.{Tree}
 use Rattle.mcv_route.specs.View.{OperationView, PrefixView, ShadowView, operation_view, pool_view, prefix_view, shadow_view, view}
@@ -94,6 +95,21 @@ worded_prefix_selector v d k = ap (λ (t : Tree). child_word t k) (view-PrefixSe
 
 pub worded_operation_selector : (v : Vec OperationPolicy Global) (d : Option (Box Route Global)) (k : ℕ) → child_word (view (OperationSelector v d)) k ≡ operation_word (slice_get (map (λ p. p.0) (map operation_view v.items)) k)
 worded_operation_selector v d k = ap (λ (t : Tree). child_word t k) (view-OperationSelector v d)
+
+-- ---- servers
+
+-- the numbers of the first four servers
+first_numbers : (ids : List ServerId) → map (λ s. s.0) (take (min (length ids) 4) ids) ≡ take 4 (map (λ s. s.0) ids)
+first_numbers [] = refl
+first_numbers (a ∷ []) = refl
+first_numbers (a ∷ b ∷ []) = refl
+first_numbers (a ∷ b ∷ c ∷ []) = refl
+first_numbers (a ∷ b ∷ c ∷ d ∷ rest) =
+    let four : min (length (a ∷ b ∷ c ∷ d ∷ rest)) 4 ≡ 4 = omega arith in
+    ap (λ (n : ℕ). map (λ (s : ServerId). s.0) (take n (a ∷ b ∷ c ∷ d ∷ rest))) four
+
+pub first_four : (ids : List ServerId) (n : ℕ) → n ≡ min (length ids) 4 → map (λ s. s.0) (take n ids) ≡ take 4 (map (λ s. s.0) ids)
+first_four ids n is = ap (λ (k : ℕ). map (λ (s : ServerId). s.0) (take k ids)) is ∙ first_numbers ids
 
 -- ---- policies and shadows by their numbers
 

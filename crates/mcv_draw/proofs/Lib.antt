@@ -4,4 +4,5 @@ pub mod DrawnInTurn
 pub mod Escaping
 pub mod Labels
 pub mod LegsInOrder
+pub mod MadeOfParts
 pub mod SameMarks

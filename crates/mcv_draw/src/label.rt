@@ -1,6 +1,6 @@
 //! What stands in the box of a handle.
 
-ghost use Rattle.std.specs.Prelude.{◌≡◌, ◌++◌, IfOk, OnOk, map};
+ghost use Rattle.std.specs.Prelude.{◌≡◌, ◌++◌, IfOk, OnOk, map, take};
 ghost use Rattle.std.specs.List.{flat_map};
 ghost use Rattle.mcv_draw.specs.Label.{children_words, exptime_words, handle_name, label, many_name, migration_words, more_words, own_words, pool_words, server_words};
 ghost use Rattle.mcv_route.specs.View.{pool_view, view};
@@ -109,9 +109,17 @@ fn push_pool(text: &mut Vec<u8>, leaf: &Leaf, servers: &Servers) -> Result<(), A
     ensures { OnOk result (text.new.items ≡ text.old.items ++ pool_words servers.now (pool_view leaf.now).servers) }
 {
     let ids = leaf.servers.as_slice();
-    let written = ids.len().min(SERVERS_WRITTEN);
-    push_servers(text, &ids[..written], servers)?;
+    push_first(text, ids, servers)?;
     push_more(text, ids.len())
+}
+
+/// Adds the first four servers.
+#[tactic(auto, using(crate::proofs::Labels::first_four))]
+fn push_first(text: &mut Vec<u8>, ids: &[ServerId], servers: &Servers) -> Result<(), AllocError>
+    ensures { OnOk result (text.new.items ≡ text.old.items ++ flat_map (server_words servers.now) (take 4 (map (λ s. s.0) ids.now))) }
+{
+    let written = ids.len().min(SERVERS_WRITTEN);
+    push_servers(text, &ids[..written], servers)
 }
 
 fn push_servers(text: &mut Vec<u8>, ids: &[ServerId], servers: &Servers) -> Result<(), AllocError>

@@ -52,12 +52,23 @@ impl Marks {
         ensures { result ≡ marked (marks_of self.now) position.now }
     {
         let steps = position.steps();
+        let deletes = self.deletes.lead_to(steps);
+        let is_readable = self.readable.has(steps);
+        let is_shown = self.shown.lead_to(steps);
+        let is_lost = self.loses(steps);
         Marked {
-            deletes: self.deletes.lead_to(steps),
-            is_readable: self.readable.has(steps),
-            is_shown: self.shown.lead_to(steps),
-            is_lost: self.loses(steps),
+            deletes,
+            is_readable,
+            is_shown,
+            is_lost,
         }
+    }
+
+    /// Whether a position is on the way of a finding's get or delete.
+    pub(crate) fn shows(&self, position: &Position) -> bool
+        ensures { result ≡ (marks_of self.now).shown position.now }
+    {
+        self.shown.lead_to(position.steps())
     }
 
     /// Whether it is the leaf whose server is lost.

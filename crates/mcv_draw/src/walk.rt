@@ -1,6 +1,6 @@
 //! The walk through a route's tree, handle by handle.
 
-ghost use Rattle.std.specs.Prelude.{◌≡◌, ◌<◌, ◌++◌, ◌∷◌, [], IfOk, OnOk, map};
+ghost use Rattle.std.specs.Prelude.{◌≡◌, ◌<◌, ◌++◌, ◌∷◌, [], ◌&&◌, ◌||◌, IfOk, OnOk, if◌then◌else◌, map, nat_le, not};
 ghost use Rattle.mcv_draw.specs.Children.{drawn_children, tree_count};
 ghost use Rattle.mcv_draw.specs.Drawn.{branch_to, drawn, element, is_folded_at, top};
 ghost use Rattle.mcv_draw.specs.Element.{element_of, rows_of};
@@ -146,7 +146,21 @@ fn is_folded(parent: &Branch, position: &Position, number: usize, marks: &Marks)
     requires { position.now ≡ parent.now.position ++ number ∷ [] }
     ensures { result ≡ is_folded_at (marks_of marks.now) (branch_of parent.now) number }
 {
-    parent.is_folded || (number >= CHILDREN_DRAWN && !marks.shown.lead_to(position.steps()))
+    folds(parent.is_folded, number, marks.shows(position))
+}
+
+/// Whether the child of a number is folded away: what is below one that is, and behind the first 60 what isn't shown.
+fn folds(is_folded: bool, number: usize, is_shown: bool) -> bool
+    ensures { result ≡ (is_folded || (nat_le 60 number && not is_shown)) }
+{
+    is_folded || (number >= CHILDREN_DRAWN && !is_shown)
+}
+
+/// The row of a handle, where this one is free.
+fn row_of(is_folded: bool, row: usize) -> Option<usize>
+    ensures { result ≡ (if is_folded then None else Some row) }
+{
+    if is_folded { None } else { Some(row) }
 }
 
 /// The element of a handle, where this row is free.
@@ -167,10 +181,11 @@ fn drawn_element(
         word,
         is_folded,
     } = branch;
+    let row = row_of(is_folded, row);
     Ok(Element {
         route: drawing.number,
         position,
-        row: if is_folded { None } else { Some(row) },
+        row,
         above,
         word,
         label,
