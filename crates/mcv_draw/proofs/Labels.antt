@@ -5,8 +5,7 @@ use Rattle.std.specs.Slice.{IsItemAt}
 use Rattle.std.proofs.lemmas.Option.{slice_get-map}
 use Rattle.std.specs.declared.alloc.Global.{Global}
 use Rattle.mcv_base.specs.declared.request.ServerId.{ServerId}
-use Rattle.mcv_names.specs.declared.handle.Many.{Many as Kind}
-use Rattle.mcv_route.specs.Tree.{Tree}
+use Rattle.mcv_route.specs.Tree.{Many as Kind, Tree}
 use Rattle.mcv_route.specs.View.{OperationView, PrefixView, ShadowView, operation_view, pool_view, prefix_view, shadow_view, view}
 use Rattle.mcv_route.specs.declared.tree.Leaf.{Leaf}
 use Rattle.mcv_route.specs.declared.tree.OperationPolicy.{OperationPolicy, out-OperationPolicy}
