@@ -5,8 +5,7 @@ use Rattle.std.specs.Slice.{IsItemAt}
 use Rattle.std.proofs.lemmas.Option.{slice_get-map}
 use Rattle.std.specs.declared.alloc.Global.{Global}
 use Rattle.mcv_base.specs.declared.request.ServerId.{ServerId}
-use Rattle.mcv_names.specs.declared.handle.Many.{Many as Kind}
-use Rattle.mcv_route.specs.Tree.{Tree}
+use Rattle.mcv_route.specs.Tree.{Many as Kind, Tree}
 use Rattle.mcv_route.specs.View.{OperationView, PrefixView, ShadowView, operation_view, pool_view, prefix_view, shadow_view, view}
 use Rattle.mcv_route.specs.declared.tree.Leaf.{Leaf}
 use Rattle.mcv_route.specs.declared.tree.OperationPolicy.{OperationPolicy, out-OperationPolicy}
@@ -113,13 +112,15 @@ first_four ids n is = ap (λ (k : ℕ). map (λ (s : ServerId). s.0) (take k ids
 
 -- ---- policies and shadows by their numbers
 
+-- a part of what is found, in steps
+by_steps : {X Y Z : Type 0} (f : X → Y) (g : Y → Z) (o : Option (Bor X)) → option_map (λ (x : Bor X). g (f x.now)) o ≡ option_map g (option_map f (option_map (λ (x : Bor X). x.now) o))
+by_steps f g None = refl
+by_steps f g (Some x) = refl
+
 -- what is found at a place of a list, by a part of it
-got_part : {X Y Z : Type 0} (f : X → Y) (g : Y → Z) (xs : List X) (k : ℕ) (got : Option (Bor X)) → IsItemAt xs k got → option_map (λ x. g (f x.now)) got ≡ slice_get (map g (map f xs)) k
-got_part f g xs k got is = by_case got ∙ (ap (λ o. option_map g (option_map f o)) (leg_at xs k got is) ∙ (ap (option_map g) (sym (slice_get-map f xs k)) ∙ sym (slice_get-map g (map f xs) k)))
-  where
-    by_case : (o : Option (Bor X)) → option_map (λ x. g (f x.now)) o ≡ option_map g (option_map f (option_map (λ x. x.now) o))
-    by_case None = refl
-    by_case (Some x) = refl
+got_part : {X Y Z : Type 0} (f : X → Y) (g : Y → Z) (xs : List X) (k : ℕ) (got : Option (Bor X)) → IsItemAt xs k got → option_map (λ (x : Bor X). g (f x.now)) got ≡ slice_get (map g (map f xs)) k
+got_part f g xs k got is =
+    by_steps f g got ∙ (ap (λ o. option_map g (option_map f o)) (leg_at xs k got is) ∙ (ap (λ o. option_map g o) (sym (slice_get-map f xs k)) ∙ sym (slice_get-map g (map f xs) k)))
 
 pub shadow_there : (route : Route) (leaf : Leaf) (v : Vec Shadow Global) (items : List Shadow) (k : ℕ) (got : Option (Bor Shadow)) → route ≡ Pool leaf v → items ≡ v.items → IsItemAt items k got
     → shadow_word (option_map (λ s. (shadow_view s.now).0) got) ≡ child_word (view route) k

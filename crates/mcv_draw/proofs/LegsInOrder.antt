@@ -94,8 +94,8 @@ none_at (x ∷ xs) zero none = absurd (cc)
 none_at (x ∷ xs) (suc i) none = let rest = none_at xs i none in omega arith
 
 turned : (a b : Bool) → (a ≡ true → b ≡ true) → b ≡ false → a ≡ false
-turned true b means no = absurd (true≢false (sym (means refl) ∙ no))
-turned false b means no = refl
+turned true b means fails = absurd (true≢false (sym (means refl) ∙ fails))
+turned false b means fails = refl
 
 -- a test that holds of nothing before a position, and of what is between the position and what it holds of, holds of some leg where it holds of the first that doesn't
 -- come before the position
@@ -122,15 +122,15 @@ any_next test xs p i (Some q) is sorted parted behind kept = go (test q) refl
         subst (λ (y : List ℕ). is_lt (list_cmp (get_or xs k d) y) ≡ false) (at d)
         (sorted_far (λ (a b : List ℕ). is_lt (list_cmp a b)) (ranks_by nat_list_cmp_total (λ (x : List ℕ). x)) xs sorted i k d after low)
 
-    fails : test q ≡ false → (k : ℕ) (d : List ℕ) → k < length xs → test (get_or xs k d) ≡ false
-    fails no k d low = elim (cases_lt k i) [
+    none_holds : test q ≡ false → (k : ℕ) (d : List ℕ) → k < length xs → test (get_or xs k d) ≡ false
+    none_holds fails k d low = elim (cases_lt k i) [
       | inl before ↦ turned (test (get_or xs k d)) false (λ holds. sym (behind (get_or xs k d) holds) ∙ parted.0 k d (omega arith) before) refl
-      | inr after ↦ turned (test (get_or xs k d)) (test q) (λ holds. kept q (get_or xs k d) (next_behind d) (later k d after low) holds) no
+      | inr after ↦ turned (test (get_or xs k d)) (test q) (λ holds. kept q (get_or xs k d) (next_behind d) (later k d after low) holds) fails
     ]
 
     go : (b : Bool) → test q ≡ b → list_any test xs ≡ b
     go true holds = list_any_at test xs i q (slice_get_within xs i q is) (subst (λ (y : List ℕ). test y ≡ true) (sym (at q)) holds)
-    go false no = list_any_none test xs (fails no)
+    go false fails = list_any_none test xs (none_holds fails)
 
 pub next_leads : (xs : List (List ℕ)) (p : List ℕ) (i : ℕ) (next : Option (List ℕ)) → slice_get xs i ≡ next → IsSorted list_cmp xs
     → IsPartitionPoint (λ leg. is_lt (list_cmp leg p) ≡ true) (λ leg. is_lt (list_cmp leg p) ≡ false) xs i → leads_to xs p ≡ option_map_or (λ leg. starts_with nat_eq leg p) next false

@@ -1,17 +1,12 @@
 -- What is made of parts that are right is right.
-use Rattle.std.proofs.Common.{◌≡◌, ◌∙◌, ℕ, ◌+◌, ◌≤◌, Bool, true, false, cond, List, [], ◌∷◌, ◌++◌, Option, Some, None, Result, Ok, Err, add-zero, ap, arith, is_some, length, map, refl, sym}
+use Rattle.std.proofs.Common.{◌≡◌, ◌∙◌, ℕ, Bool, List, Option, Some, None, Result, Ok, Err, ap}
 use Rattle.std.specs.Prelude.{OnOk, if◌then◌else◌}
-use Rattle.std.proofs.lemmas.List.{map-append}
-use Rattle.std.proofs.lemmas.List.Sums.{count_by-le-length}
-use Rattle.std.proofs.lemmas.List.{length-map}
 use Rattle.mcv_route.specs.Tree.{Tree}
 use Rattle.mcv_draw.specs.Drawn.{BranchValue, DrawingValue, element}
-use Rattle.mcv_draw.specs.Element.{ElementValue, element_of, rows_of}
+use Rattle.mcv_draw.specs.Element.{ElementValue}
 use Rattle.mcv_draw.specs.Label.{label}
 use Rattle.mcv_draw.specs.Marks.{MarksValue, marked}
-use Rattle.mcv_draw.specs.declared.element.Element.{Element}
 use Rattle.mcv_draw.specs.declared.marks.Marked.{Marked}
-use Rattle.mcv_draw.proofs.DrawnInTurn.{rows-append}
 
 pub on_ok : {T E : Type 0} (r : Result T E) (P : Type 0) → P → OnOk r P
 on_ok (Ok x) P holds = holds
@@ -47,22 +42,3 @@ pub element_made : (d : DrawingValue) (b : BranchValue) (row : ℕ) (t : Tree) (
 element_made d b row t r l m in_row said marks =
     ap (λ (x : Option ℕ). boxed d b x l m) in_row ∙ (ap (λ (x : List ℕ). boxed d b (if b.is_folded then None else Some row) x m) said
     ∙ ap (λ (x : Marked). boxed d b (if b.is_folded then None else Some row) (label d.servers t) x) marks)
-
--- ---- rows
-
--- the rows of elements of which one was added
-rows_with : (xs ys : List Element) (e : Element) (has : Bool) → ys ≡ xs ++ e ∷ [] → is_some e.row ≡ has → rows_of (map element_of ys) ≡ rows_of (map element_of xs) + (0 + cond has 1 0)
-rows_with xs ys e has added is =
-    ap (λ (zs : List Element). rows_of (map element_of zs)) added ∙ (ap rows_of (map-append element_of xs (e ∷ []))
-    ∙ (rows-append (map element_of xs) (element_of e ∷ []) ∙ ap (λ (b : Bool). rows_of (map element_of xs) + (0 + cond b 1 0)) is))
-
-pub row_more : (xs ys : List Element) (e : Element) → ys ≡ xs ++ e ∷ [] → is_some e.row ≡ true → rows_of (map element_of ys) ≡ rows_of (map element_of xs) + 1
-row_more xs ys e added is = rows_with xs ys e true added is
-
-pub row_none : (xs ys : List Element) (e : Element) → ys ≡ xs ++ e ∷ [] → is_some e.row ≡ false → rows_of (map element_of ys) ≡ rows_of (map element_of xs)
-row_none xs ys e added is = rows_with xs ys e false added is ∙ add-zero (rows_of (map element_of xs))
-
-pub rows_few : (xs : List Element) → rows_of (map element_of xs) ≤ length xs
-rows_few xs =
-    let few : rows_of (map element_of xs) ≤ length (map element_of xs) = count_by-le-length (λ (e : ElementValue). is_some e.row) (map element_of xs) in
-    omega (arith, few, length-map xs element_of)

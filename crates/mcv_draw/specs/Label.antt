@@ -39,13 +39,17 @@ more_words n = if nat_lt 4 n then codes " and " ++ decimal (n - 4) ++ codes " mo
 abbrev pub pool_words : (table : List (List ℕ)) → (servers : List ℕ) → List ℕ
 pool_words table servers = flat_map (server_words table) (take 4 servers) ++ more_words (length servers)
 
+-- a key, and its number
+abbrev pub keyed_words : (key : List ℕ) → ℕ → List ℕ
+keyed_words key n = key ++ decimal n
+
 -- the seconds of a warm-up's add
 abbrev pub exptime_words : ℕ → List ℕ
-exptime_words exptime = codes " exptime " ++ decimal exptime
+exptime_words exptime = keyed_words (codes " exptime ") exptime
 
 -- when a migration starts and how long it lasts, in seconds
 abbrev pub migration_words : (start interval : ℕ) → List ℕ
-migration_words start interval = codes " start_time " ++ decimal start ++ codes " interval " ++ decimal interval
+migration_words start interval = keyed_words (codes " start_time ") start ++ keyed_words (codes " interval ") interval
 
 abbrev pub own_words : (table : List (List ℕ)) → Tree → List ℕ
 own_words table (pool q ranges targets) = pool_words table q.servers

@@ -47,14 +47,20 @@ fn dot_colour(marked: Marked) -> &'static [u8]
 }
 
 #[tactic(auto, unfolding(crate::specs::Dot::dot_style))]
-fn dot_style(alloc: Global, marked: Marked) -> Result<Vec<u8>, AllocError>
-    ensures { IfOk result (λ text. text.items ≡ dot_style marked) }
+fn push_style(text: &mut Vec<u8>, marked: Marked) -> Result<(), AllocError>
+    ensures { OnOk result (text.new.items ≡ text.old.items ++ dot_style marked) }
 {
     let colour = dot_colour(marked);
     let shown = if_marked(marked.is_shown, b" penwidth=4");
     let lost = if_marked(marked.is_lost, b" fontcolor=\"#b3261e\"");
+    push_pieces(text, &[colour, shown, lost])
+}
+
+fn dot_style(alloc: Global, marked: Marked) -> Result<Vec<u8>, AllocError>
+    ensures { IfOk result (λ text. text.items ≡ dot_style marked) }
+{
     let mut text = Vec::new(alloc);
-    push_pieces(&mut text, &[colour, shown, lost])?;
+    push_style(&mut text, marked)?;
     Ok(text)
 }
 

@@ -2,7 +2,7 @@
 
 ghost use Rattle.std.specs.Prelude.{◌≡◌, ◌++◌, IfOk, OnOk, map, take};
 ghost use Rattle.std.specs.List.{flat_map};
-ghost use Rattle.mcv_draw.specs.Label.{children_words, exptime_words, handle_name, label, many_name, migration_words, more_words, own_words, pool_words, server_words};
+ghost use Rattle.mcv_draw.specs.Label.{children_words, exptime_words, handle_name, keyed_words, label, many_name, migration_words, more_words, own_words, pool_words, server_words};
 ghost use Rattle.mcv_route.specs.View.{pool_view, view};
 
 use crate::children::child_count;
@@ -89,17 +89,22 @@ fn push_own(text: &mut Vec<u8>, route: &Route, servers: &Servers) -> Result<(), 
 fn push_exptime(text: &mut Vec<u8>, exptime: u32) -> Result<(), AllocError>
     ensures { OnOk result (text.new.items ≡ text.old.items ++ exptime_words exptime) }
 {
-    text.extend_from_slice(b" exptime ")?;
-    push_number(text, exptime as usize)
+    push_keyed(text, b" exptime ", exptime)
 }
 
 fn push_migration(text: &mut Vec<u8>, start: u32, interval: u32) -> Result<(), AllocError>
     ensures { OnOk result (text.new.items ≡ text.old.items ++ migration_words start interval) }
 {
-    text.extend_from_slice(b" start_time ")?;
-    push_number(text, start as usize)?;
-    text.extend_from_slice(b" interval ")?;
-    push_number(text, interval as usize)
+    push_keyed(text, b" start_time ", start)?;
+    push_keyed(text, b" interval ", interval)
+}
+
+/// Adds a key, and its number.
+fn push_keyed(text: &mut Vec<u8>, key: &[u8], number: u32) -> Result<(), AllocError>
+    ensures { OnOk result (text.new.items ≡ text.old.items ++ keyed_words key.now number) }
+{
+    text.extend_from_slice(key)?;
+    push_number(text, number as usize)
 }
 
 // ---- servers
