@@ -30,10 +30,10 @@ class_count ps = places (λ p q. is_same_class p.spot q.spot) None ps
 
 -- in what a leaf is counted once: the delete and the get have an era each where there is a window
 unfoldable pub counted_words : (window : ℕ) → List ℕ
-counted_words window = if window == 0 then codes " eras, a leaf counted once for each class and era.\n" else codes " eras, a leaf counted once for each class, era of the delete and era of the get.\n"
+counted_words window = if window == 0 then codes "; a leaf is counted once for each class and era.\n" else codes "; a leaf is counted once for each class, era of the delete and era of the get.\n"
 
 unfoldable pub compared_words : (leaves classes eras counted : List ℕ) → List ℕ
-compared_words leaves classes eras counted = joined (codes "\nCompared: " ∷ leaves ∷ codes " readable leaves, in " ∷ classes ∷ codes " classes and " ∷ eras ∷ counted ∷ [])
+compared_words leaves classes eras counted = joined (codes "\nCompared: readable leaves " ∷ leaves ∷ codes ", classes " ∷ classes ∷ codes ", eras " ∷ eras ∷ counted ∷ [])
 
 -- the table has the moments at which what migrations do changes: there is one era more
 abbrev pub compared : CertificateValue → (table : List ℕ) → List ℕ

@@ -54,9 +54,9 @@ fn counted_words(window: u64) -> &'static [u8]
     ensures { result.now ≡ counted_words window }
 {
     if window == 0 {
-        b" eras, a leaf counted once for each class and era.\n"
+        b"; a leaf is counted once for each class and era.\n"
     } else {
-        b" eras, a leaf counted once for each class, era of the delete and era of the get.\n"
+        b"; a leaf is counted once for each class, era of the delete and era of the get.\n"
     }
 }
 
@@ -73,11 +73,11 @@ fn push_compared_words(
     push_pieces(
         text,
         &[
-            b"\nCompared: ",
+            b"\nCompared: readable leaves ",
             leaves,
-            b" readable leaves, in ",
+            b", classes ",
             classes,
-            b" classes and ",
+            b", eras ",
             eras,
             counted,
         ],

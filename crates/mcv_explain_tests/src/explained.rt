@@ -32,7 +32,7 @@ const COVERED: &str = r#"{"pools": {"A": {"servers": ["a:1", "b:1"]}},
  "route": {"type": "PrefixSelectorRoute", "policies": {"ab": "PoolRoute|A"}, "wildcard": "PoolRoute|A"}}"#;
 
 const COMPARED: &str = "
-Compared: 2 readable leaves, in 2 classes and 1 eras, a leaf counted once for each class and era.
+Compared: readable leaves 2, classes 2, eras 1; a leaf is counted once for each class and era.
 ";
 
 fn check_explained(

@@ -39,7 +39,7 @@ mcv-cert 1
 0 =\"><script> 0 0 twin 0
 end
 
-Compared: 2 readable leaves, in 2 classes and 1 eras, a leaf counted once for each class and era.
+Compared: readable leaves 2, classes 2, eras 1; a leaf is counted once for each class and era.
 ";
 
 const CERTIFICATE: &str = "mcv-cert 1
@@ -50,7 +50,7 @@ end
 
 const GIVEN_TEXT: &str = "covered 2
 
-Compared: 2 readable leaves, in 2 classes and 1 eras, a leaf counted once for each class and era.
+Compared: readable leaves 2, classes 2, eras 1; a leaf is counted once for each class and era.
 ";
 
 const PLAIN_TEXT: &str = "covered 2
