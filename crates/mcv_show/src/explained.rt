@@ -7,7 +7,7 @@ ghost use Rattle.mcv_cert.specs.Text.{certificate_text};
 ghost use Rattle.mcv_explain.specs.Explanation.{explanation};
 ghost use Rattle.mcv_explain.specs.Scene.{scene_of};
 ghost use Rattle.mcv_route.specs.Eras.{IsBreakTable, breaks_of};
-ghost use Rattle.mcv_show.specs.Explained.{IsExplainedOf, IsExplainedOn, IsVerdictAs, covered_explained, if_made, is_made};
+ghost use Rattle.mcv_show.specs.Explained.{IsExplainedOf, IsExplainedOn, covered_explained, if_made, is_made};
 ghost use Rattle.mcv_verdict.specs.Fault.{IsRefusedFor, IsRunFault};
 ghost use Rattle.mcv_witness.specs.Finding.{finding_of};
 ghost use Rattle.mcv_witness.specs.Text.{finding_text};
@@ -18,9 +18,8 @@ use mcv_check::Accepted;
 use mcv_explain::{Scene, push_compared, push_explanation};
 use mcv_input::{RunFault, write_text};
 use mcv_route::Routes;
-use mcv_verdict::{Judged, Verdict, covered_line, judge, run_check};
+use mcv_verdict::{Judged, Verdict, covered_line, judge};
 use mcv_witness::finding_text;
-use mcv_words::CheckOptions;
 use serde_json::Value;
 use std::alloc::{AllocError, Global};
 use std::io::{Read, Write};
@@ -32,32 +31,9 @@ struct Output {
     text: Vec<u8>,
 }
 
-/// Reads a configuration and writes the verdict on it as the options ask, by the certificate whose text is given, or else
-/// by one made here: the verdict's own text, as `run_check` does, and its explanation behind it where they ask for one.
-/// Where the configuration or the certificate is at fault, nothing is written.
-pub fn run_check_as<R: Read, W: Write>(
-    alloc: Global,
-    reader: &mut R,
-    writer: &mut W,
-    certificate: Option<&[u8]>,
-    options: CheckOptions,
-) -> Result<Verdict, RunFault>
-    ensures ok { IfOk result (λ verdict. (text : List ℕ)
-        × IfSome (R.remaining reader.old) (λ input. IsVerdictAs options input (option_map (λ given. given.now) certificate.entry) verdict text)
-        × Appends (W.contents writer.old) (W.contents writer.new) text) }
-    ensures fault { IfErr result (λ fault.
-        IfSome (R.remaining reader.old) (λ input. IsRunFault input options.window.seconds (option_map (λ given. given.now) certificate.entry) fault)) }
-    ensures silent { IfErr result (λ fault. fault ≢ RunFault.Device → W.contents writer.new ≡ W.contents writer.old) }
-{
-    let is_explained = options.explain;
-    if is_explained {
-        return run_explained(alloc, reader, writer, certificate, options.window.seconds);
-    }
-    run_check(alloc, reader, writer, certificate, options.window.seconds)
-}
-
-/// The same within a window, with an explanation.
-fn run_explained<R: Read, W: Write>(
+/// Reads a configuration and writes the verdict on it within a window, with an explanation behind it; by the certificate
+/// whose text is given, or else by one made here.
+pub(crate) fn run_explained<R: Read, W: Write>(
     alloc: Global,
     reader: &mut R,
     writer: &mut W,

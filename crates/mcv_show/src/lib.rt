@@ -5,5 +5,6 @@
 
 mod explained;
 mod input;
+mod run;
 
-pub use explained::run_check_as;
+pub use run::run_check_as;

@@ -2,7 +2,7 @@ use Rattle.std.proofs.Common.{List, ℕ, Option, option_map}
 use Rattle.std.proofs.lemmas.Option.{IfSome_then}
 use Rattle.std.proofs.lemmas.Result.{IfOk-weaker}
 use Rattle.mcv_show.proofs.Verdicts.{explained_as, plain_as}
-use Rattle.mcv_show.proofs.explained.run_check_as.Goals as goal
+use Rattle.mcv_show.proofs.run.run_check_as.Goals as goal
 
 pub returns-then-is_explained-clause-ok : goal.returns-then-is_explained-clause-ok
 returns-then-is_explained-clause-ok g c =
