@@ -1,5 +1,5 @@
 -- What the program does for the words of a command line.
-use Rattle.std.specs.Prelude.{◌≡◌, ◌⊎◌, ℕ, Bool, List, Option, Some, None, IfSome, MatchOption, codes, take, if◌then◌else◌, ⊤}
+use Rattle.std.specs.Prelude.{◌≡◌, ◌⊎◌, ℕ, Bool, true, List, Option, Some, None, IfSome, MatchOption, codes, take, if◌then◌else◌, ⊤}
 use Rattle.std.specs.Io.KnownBytes.{Appends}
 use Rattle.clap.specs.Words.{IsAmong, Text}
 use Rattle.clap.specs.declared.error.kind.ErrorKind.TheVariants.{DisplayHelp, DisplayVersion}
@@ -14,7 +14,7 @@ use Rattle.mcv_records.specs.Text.{records_text, slot_lines}
 use Rattle.mcv_records.specs.declared.list.Shown.{Shown}
 use Rattle.mcv_records.specs.declared.list.Shown.TheVariants.{Pending, All}
 use Rattle.mcv_route.specs.Routes.{RoutesValue, within}
-use Rattle.mcv_show.specs.Explained.{IsVerdictAs}
+use Rattle.mcv_show.specs.AsAsked.{IsVerdictAs}
 use Rattle.mcv_spool.specs.File.{damage, slots}
 use Rattle.mcv_symbolic.specs.CoveredRoutes.{AreCovered}
 use Rattle.mcv_verdict.specs.Fault as check
@@ -110,6 +110,10 @@ IsListingStop (Run fault) = IsOutside fault
 IsListingStop (Mended fault) = ⊥
 IsListingStop NoChange = ⊥
 IsListingStop (Damaged slot) = ⊤
+
+-- the words ask for a verdict as a report, which a fault of the configuration or of the certificate has, too
+abbrev pub AsksReport : List Text → Type 0
+AsksReport words = (cert : Option Text) × (options : CheckOptions) × AsksCheck words cert options × (options.json ≡ true)
 
 -- the words ask for the records of a spool's file
 abbrev pub AsksAnySpool : List Text → Type 0
