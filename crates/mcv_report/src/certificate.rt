@@ -4,16 +4,18 @@ ghost use Rattle.std.specs.Prelude.{◌≡◌, [], IfOk, map, unwrap_or};
 ghost use Rattle.serde_json.specs.View.{view};
 ghost use Rattle.mcv_base.specs.Position.{position_text};
 ghost use Rattle.mcv_cert.specs.Pair.{pair_of};
+ghost use Rattle.mcv_cert.specs.Place.{place_of};
 ghost use Rattle.mcv_cert.specs.Reason.{reason_of};
 ghost use Rattle.mcv_places.specs.Pools.{handle_at};
 ghost use Rattle.mcv_report.specs.CertificateReport.{covered_report, pair_report, reason_index, reason_legs, reason_name};
 ghost use Rattle.mcv_report.specs.Json.{IsJsonOf, list_from, text_from};
 
-use crate::text::{escaped_text, number_or_null, position_text, report_text, text_of};
+use crate::object::Object;
+use crate::text::{position_text, report_text};
 use mcv_base::Position;
-use mcv_cert::{Certificate, Pair, Reason};
+use mcv_cert::{Certificate, Pair, Place, Reason};
 use mcv_places::handle_at;
-use serde_json::{Value, json};
+use serde_json::Value;
 use std::alloc::{AllocError, Global};
 use std::slice;
 
@@ -38,12 +40,13 @@ fn covered_report(
 ) -> Result<Value, AllocError>
     ensures { IfOk result (λ v. view v ≡ covered_report (view document.now) certificate.now) }
 {
-    json!(in alloc; {
-        "certificate": pair_reports(alloc, document, certificate.pairs())?,
-        "schema_version": 1u64,
-        "verdict": text_of(alloc, b"covered")?,
-        "window": certificate.window()
-    })
+    let pairs = pair_reports(alloc, document, certificate.pairs())?;
+    let report = Object::new(alloc)
+        .with("certificate", pairs)?
+        .number("schema_version", 1)?
+        .text("verdict", b"covered")?
+        .number("window", certificate.window() as usize)?;
+    Ok(report.value())
 }
 
 fn pair_reports(alloc: Global, document: &Value, pairs: &[Pair]) -> Result<Value, AllocError>
@@ -61,31 +64,27 @@ fn pair_report(alloc: Global, document: &Value, pair: &Pair) -> Result<Value, Al
     ensures { IfOk result (λ v. view v ≡ pair_report (view document.now) (pair_of pair.now)) }
 {
     let place = &pair.place;
-    json!(in alloc; {
-        "class": escaped_text(alloc, place.class.as_slice())?,
-        "era": place.era,
-        "get_era": place.get_era,
-        "index": number_or_null(reason_index(&pair.reason)),
-        "leaf": position_text(alloc, &place.leaf)?,
-        "leaf_pointer": pointer_text(alloc, document, place.route, &place.leaf)?,
-        "legs": leg_texts(alloc, reason_legs(&pair.reason))?,
-        "reason": text_of(alloc, reason_name(&pair.reason))?,
-        "route": place.route
-    })
+    let pointer = leaf_pointer(alloc, document, place)?;
+    let report = Object::new(alloc)
+        .word("class", place.class.as_slice())?
+        .number("era", place.era)?
+        .number("get_era", place.get_era)?
+        .number_or_null("index", reason_index(&pair.reason))?
+        .position("leaf", &place.leaf)?
+        .text("leaf_pointer", pointer.as_slice())?
+        .with("legs", leg_texts(alloc, reason_legs(&pair.reason))?)?
+        .text("reason", reason_name(&pair.reason))?
+        .number("route", place.route)?;
+    Ok(report.value())
 }
 
-/// The pointer of the handle at a position; empty where there is none.
-fn pointer_text(
-    alloc: Global,
-    document: &Value,
-    route: usize,
-    position: &Position,
-) -> Result<Value, AllocError>
-    ensures { IfOk result (λ v. view v ≡ text_from (unwrap_or (handle_at (view document.now) route position.now) [])) }
+/// The pointer of a place's leaf; empty where there is none.
+fn leaf_pointer(alloc: Global, document: &Value, place: &Place) -> Result<Vec<u8>, AllocError>
+    ensures { IfOk result (λ pointer. pointer.items ≡ unwrap_or (handle_at (view document.now) place.now.route (place_of place.now).leaf) []) }
 {
-    match handle_at(alloc, document, route, position)? {
-        Some(pointer) => text_of(alloc, pointer.as_slice()),
-        None => text_of(alloc, b""),
+    match handle_at(alloc, document, place.route, &place.leaf)? {
+        Some(pointer) => Ok(pointer),
+        None => Ok(Vec::new(alloc)),
     }
 }
 

@@ -7,12 +7,13 @@ ghost use Rattle.mcv_cert.specs.Fault.{fault_line};
 ghost use Rattle.mcv_report.specs.Json.{IsJsonOf};
 ghost use Rattle.mcv_report.specs.FaultReport.{certificate_fault_report, config_fault_report, pair_fault_name, pair_fault_report, refused_report, text_fault_name, text_fault_report, window_fault_report};
 
-use crate::text::{number_or_null, report_text, text_of};
+use crate::object::Object;
+use crate::text::report_text;
 use mcv_cert::CertTextFault;
 use mcv_faults::{TextPlace, fault_name, fault_pointer};
 use mcv_judge::PairFault;
 use mcv_names::ConfigFault;
-use serde_json::{Value, json};
+use serde_json::Value;
 use std::alloc::{AllocError, Global};
 
 /// The text of the report on a fault of a configuration, with its line and its column where they are known.
@@ -98,14 +99,14 @@ fn certificate_fault_report(
 ) -> Result<Value, AllocError>
     ensures { IfOk result (λ v. view v ≡ certificate_fault_report kind.now line name.now number) }
 {
-    json!(in alloc; {
-        "column": null,
-        "kind": text_of(alloc, kind.as_bytes())?,
-        "line": number_or_null(line),
-        "name": text_of(alloc, name.as_bytes())?,
-        "number": number as u64,
-        "pointer": null
-    })
+    let report = Object::new(alloc)
+        .with("column", Value::Null)?
+        .text("kind", kind.as_bytes())?
+        .number_or_null("line", line)?
+        .text("name", name.as_bytes())?
+        .number("number", number as usize)?
+        .with("pointer", Value::Null)?;
+    Ok(report.value())
 }
 
 /// The report with this fault.
@@ -113,11 +114,11 @@ fn certificate_fault_report(
 fn refused_report(alloc: Global, fault: Value) -> Result<Value, AllocError>
     ensures { IfOk result (λ v. view v ≡ refused_report (view fault)) }
 {
-    json!(in alloc; {
-        "fault": fault,
-        "schema_version": 1u64,
-        "verdict": text_of(alloc, b"refused")?
-    })
+    let report = Object::new(alloc)
+        .with("fault", fault)?
+        .number("schema_version", 1)?
+        .text("verdict", b"refused")?;
+    Ok(report.value())
 }
 
 #[tactic(auto, unfolding(crate::specs::FaultReport::config_fault_report))]
@@ -129,12 +130,12 @@ fn config_fault_report(
     ensures { IfOk result (λ v. view v ≡ config_fault_report fault.now (option_map (λ p. (p.line, p.column)) place)) }
 {
     let pointer = fault_pointer(alloc, fault.path().as_bytes())?;
-    json!(in alloc; {
-        "column": number_or_null(place.map(|place| place.column)),
-        "kind": text_of(alloc, b"configuration")?,
-        "line": number_or_null(place.map(|place| place.line)),
-        "name": text_of(alloc, fault_name(fault.kind).as_bytes())?,
-        "number": fault.number() as u64,
-        "pointer": text_of(alloc, pointer.as_slice())?
-    })
+    let report = Object::new(alloc)
+        .number_or_null("column", place.map(|place| place.column))?
+        .text("kind", b"configuration")?
+        .number_or_null("line", place.map(|place| place.line))?
+        .text("name", fault_name(fault.kind).as_bytes())?
+        .number("number", fault.number() as usize)?
+        .text("pointer", pointer.as_slice())?;
+    Ok(report.value())
 }

@@ -9,12 +9,13 @@ ghost use Rattle.mcv_route.specs.Eras.{IsBreakTable, breaks_of};
 ghost use Rattle.mcv_witness.specs.Finding.{outcomes_of};
 ghost use Rattle.mcv_witness.specs.Text.{func_name};
 
-use crate::text::{escaped_text, number_or_null, position_text, report_text, text_of};
+use crate::object::Object;
+use crate::text::report_text;
 use mcv_base::{Moment, Op, Position};
 use mcv_explain::{Scene, outcome_word};
 use mcv_pools::{Choice, HashFunc, Symbol};
 use mcv_witness::LegOutcome;
-use serde_json::{Value, json};
+use serde_json::Value;
 use std::alloc::{AllocError, Global};
 
 /// The text of the report on a finding: that the configuration can lose a delete, and how.
@@ -32,12 +33,13 @@ pub fn lost_text(alloc: Global, scene: &Scene<'_>) -> Result<Vec<u8>, AllocError
 fn lost_report(alloc: Global, scene: &Scene<'_>, table: &[Moment]) -> Result<Value, AllocError>
     ensures { IfOk result (λ v. view v ≡ lost_report (scene_of scene.now) (map (λ m. m.0) table.now)) }
 {
-    json!(in alloc; {
-        "finding": finding_report(alloc, scene, table)?,
-        "schema_version": 1u64,
-        "verdict": text_of(alloc, b"lost")?,
-        "window": scene.finding.window
-    })
+    let finding = finding_report(alloc, scene, table)?;
+    let report = Object::new(alloc)
+        .with("finding", finding)?
+        .number("schema_version", 1)?
+        .text("verdict", b"lost")?
+        .number("window", scene.finding.window as usize)?;
+    Ok(report.value())
 }
 
 #[tactic(auto, unfolding(crate::specs::FindingReport::finding_report))]
@@ -46,17 +48,17 @@ fn finding_report(alloc: Global, scene: &Scene<'_>, table: &[Moment]) -> Result<
 {
     let finding = scene.finding;
     let symbols = scene.routes.symbols().as_slice();
-    json!(in alloc; {
-        "class": escaped_text(alloc, finding.place.class.as_slice())?,
-        "delete": delete_report(alloc, scene, table)?,
-        "get": get_report(alloc, scene, table)?,
-        "indexes": index_reports(alloc, &finding.choice, symbols)?,
-        "key": escaped_text(alloc, finding.key.as_slice())?,
-        "leaf": position_text(alloc, &finding.place.leaf)?,
-        "operation": text_of(alloc, finding.op.name().as_bytes())?,
-        "route": route_report(alloc, scene)?,
-        "server": server_report(alloc, scene)?
-    })
+    let report = Object::new(alloc)
+        .word("class", finding.place.class.as_slice())?
+        .with("delete", delete_report(alloc, scene, table)?)?
+        .with("get", get_report(alloc, scene, table)?)?
+        .with("indexes", index_reports(alloc, &finding.choice, symbols)?)?
+        .word("key", finding.key.as_slice())?
+        .position("leaf", &finding.place.leaf)?
+        .text("operation", finding.op.name().as_bytes())?
+        .with("route", route_report(alloc, scene)?)?
+        .with("server", server_report(alloc, scene)?)?;
+    Ok(report.value())
 }
 
 /// The finding's route.
@@ -65,10 +67,10 @@ fn route_report(alloc: Global, scene: &Scene<'_>) -> Result<Value, AllocError>
     ensures { IfOk result (λ v. view v ≡ route_report (scene_of scene.now)) }
 {
     let pointer = scene.handle_pointer(alloc, &Position::root(alloc))?;
-    json!(in alloc; {
-        "number": scene.finding.place.route,
-        "pointer": text_of(alloc, pointer.as_slice())?
-    })
+    let report = Object::new(alloc)
+        .number("number", scene.finding.place.route)?
+        .text("pointer", pointer.as_slice())?;
+    Ok(report.value())
 }
 
 /// The server that is lost.
@@ -77,10 +79,10 @@ fn server_report(alloc: Global, scene: &Scene<'_>) -> Result<Value, AllocError>
     ensures { IfOk result (λ v. view v ≡ server_report (scene_of scene.now)) }
 {
     let pointer = scene.server_pointer(alloc, &scene.finding.place.leaf)?;
-    json!(in alloc; {
-        "name": text_of(alloc, scene.lost_server())?,
-        "pointer": text_of(alloc, pointer.as_slice())?
-    })
+    let report = Object::new(alloc)
+        .text("name", scene.lost_server())?
+        .text("pointer", pointer.as_slice())?;
+    Ok(report.value())
 }
 
 // ---- the requests
@@ -92,10 +94,10 @@ fn delete_report(alloc: Global, scene: &Scene<'_>, table: &[Moment]) -> Result<V
         (scene_of scene.now).finding.place.spot.era (scene_of scene.now).finding.deletes) }
 {
     let finding = scene.finding;
-    json!(in alloc; {
-        "era": era_report(alloc, table, finding.place.era)?,
-        "legs": leg_reports(alloc, scene, Op::Delete, finding.deletes.as_slice())?
-    })
+    let report = Object::new(alloc)
+        .with("era", era_report(alloc, table, finding.place.era)?)?
+        .with("legs", leg_reports(alloc, scene, Op::Delete, finding.deletes.as_slice())?)?;
+    Ok(report.value())
 }
 
 /// What the finding asks for later: its era, and the legs that answer it.
@@ -105,10 +107,10 @@ fn get_report(alloc: Global, scene: &Scene<'_>, table: &[Moment]) -> Result<Valu
         (scene_of scene.now).finding.place.spot.get_era (scene_of scene.now).finding.gets) }
 {
     let finding = scene.finding;
-    json!(in alloc; {
-        "era": era_report(alloc, table, finding.place.get_era)?,
-        "legs": leg_reports(alloc, scene, finding.op, finding.gets.as_slice())?
-    })
+    let report = Object::new(alloc)
+        .with("era", era_report(alloc, table, finding.place.get_era)?)?
+        .with("legs", leg_reports(alloc, scene, finding.op, finding.gets.as_slice())?)?;
+    Ok(report.value())
 }
 
 /// An era: its number, and the moments at which it begins and is over.
@@ -116,11 +118,11 @@ fn get_report(alloc: Global, scene: &Scene<'_>, table: &[Moment]) -> Result<Valu
 fn era_report(alloc: Global, table: &[Moment], era: usize) -> Result<Value, AllocError>
     ensures { IfOk result (λ v. view v ≡ era_report (map (λ m. m.0) table.now) era) }
 {
-    json!(in alloc; {
-        "from": number_or_null(opened_at(table, era)),
-        "number": era,
-        "until": number_or_null(moment_at(table, era))
-    })
+    let report = Object::new(alloc)
+        .number_or_null("from", opened_at(table, era))?
+        .number("number", era)?
+        .number_or_null("until", moment_at(table, era))?;
+    Ok(report.value())
 }
 
 /// The moment of a table at an index.
@@ -152,13 +154,13 @@ fn leg_report(
 {
     let handle = scene.handle_pointer(alloc, &leg.position)?;
     let server_pointer = scene.server_pointer(alloc, &leg.position)?;
-    json!(in alloc; {
-        "handle": text_of(alloc, handle.as_slice())?,
-        "outcome": text_of(alloc, outcome_word(op, leg.outcome))?,
-        "position": position_text(alloc, &leg.position)?,
-        "server": text_of(alloc, scene.leg_server(&leg.position))?,
-        "server_pointer": text_of(alloc, server_pointer.as_slice())?
-    })
+    let report = Object::new(alloc)
+        .text("handle", handle.as_slice())?
+        .text("outcome", outcome_word(op, leg.outcome))?
+        .position("position", &leg.position)?
+        .text("server", scene.leg_server(&leg.position))?
+        .text("server_pointer", server_pointer.as_slice())?;
+    Ok(report.value())
 }
 
 fn leg_reports(
@@ -189,12 +191,12 @@ fn func_name(func: HashFunc) -> &'static [u8]
 fn index_report(alloc: Global, symbol: &Symbol, index: usize) -> Result<Value, AllocError>
     ensures { IfOk result (λ v. view v ≡ index_report symbol.now index) }
 {
-    json!(in alloc; {
-        "func": text_of(alloc, func_name(symbol.func()))?,
-        "index": index,
-        "salt": escaped_text(alloc, symbol.salt())?,
-        "servers": symbol.n()
-    })
+    let report = Object::new(alloc)
+        .text("func", func_name(symbol.func()))?
+        .number("index", index)?
+        .word("salt", symbol.salt())?
+        .number("servers", symbol.n())?;
+    Ok(report.value())
 }
 
 /// The indexes of the symbols that are over more than one server.

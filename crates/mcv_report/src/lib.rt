@@ -6,6 +6,7 @@
 mod certificate;
 mod fault;
 mod finding;
+mod object;
 mod text;
 
 pub use certificate::covered_text;
