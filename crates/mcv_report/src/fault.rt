@@ -1,9 +1,7 @@
 //! The report on a fault.
 
-ghost use Rattle.std.specs.Prelude.{◌≡◌, None, Some, IfOk, codes, option_map};
-ghost use Rattle.serde_json.specs.Data.{depth};
+ghost use Rattle.std.specs.Prelude.{◌≡◌, IfOk, option_map};
 ghost use Rattle.serde_json.specs.View.{view};
-ghost use Rattle.mcv_cert.specs.Fault.{fault_line};
 ghost use Rattle.mcv_report.specs.Json.{IsJsonOf};
 ghost use Rattle.mcv_report.specs.FaultReport.{certificate_fault_report, config_fault_report, pair_fault_name, pair_fault_report, refused_report, text_fault_name, text_fault_report, window_fault_report};
 
