@@ -1,5 +1,5 @@
 -- What the program did, by what the words asked for.
-use Rattle.std.proofs.Common.{◌≡◌, ◌≢◌, ◌∙◌, ap, inl, inr, refl, ◌+◌, ◌<◌, ◌≤◌, ℕ, Bool, true, false, List, length, take, Option, None, Some, Result, Err, subst, sym, arith}
+use Rattle.std.proofs.Common.{◌≡◌, ◌≢◌, ◌∙◌, ap, inl, inr, refl, ◌+◌, ◌<◌, ◌≤◌, ℕ, Bool, true, false, List, length, take, Option, None, Some, Result, Ok, Err, subst, sym, arith}
 use Rattle.std.specs.Prelude.{IfErr, IfSome, MatchOption}
 use Rattle.std.proofs.lemmas.List.{length-take}
 use Rattle.std.proofs.lemmas.Option.{IfSome_then}
@@ -14,7 +14,9 @@ use Rattle.mcv_input.specs.declared.fault.RunFault.TheVariants.{Line, NoRoute, C
 use Rattle.mcv_mend.specs.Mending.{IsMendFault}
 use Rattle.mcv_mend.specs.declared.fault.MendFault.{MendFault}
 use Rattle.mcv_mend.specs.declared.fault.MendFault.TheVariants as mend_faults
-use Rattle.mcv_show.specs.Explained.{IsExplainedOn, IsVerdictAs, IsVerdictIf}
+use Rattle.mcv_show.specs.AsAsked.{IsVerdictAs, IsVerdictIf}
+use Rattle.mcv_show.specs.Explained.{IsExplainedOn}
+use Rattle.mcv_show.specs.Reported.{IsReportedOn}
 use Rattle.mcv_verdict.specs.Fault as check
 use Rattle.mcv_verdict.specs.Verdict.{IsVerdictOn}
 use Rattle.mcv_verdict.specs.declared.verdict.Verdict.{Verdict}
@@ -44,6 +46,13 @@ running_stop words held input order (Damaged slot) asks holds = absurd holds
 running_stop words held input order (Run fault) asks holds = inr (inr (inr (inr (order, asks, holds))))
 running_stop words held input order (Mended fault) asks holds = absurd holds
 running_stop words held input order NoChange asks holds = absurd holds
+
+-- a call that writes nothing on a fault where no report is asked for writes nothing where the words ask for none
+pub silent_unless_json : {T : Type 0} (json : Bool) (r : Result T Stop) (Same : Type 0) {NoDevice Unasked : Stop → Type 0} {Unlisted Report : Type 0} → (json ≡ true → Report)
+    → (json ≡ false → IfErr r (λ stop. NoDevice stop → Same)) → IfErr r (λ stop. NoDevice stop → Unasked stop → Unlisted → ¬ Report → Same)
+silent_unless_json json (Ok x) Same asks silent = tt
+silent_unless_json true (Err stop) Same asks silent = λ no_device unasked unlisted unreported. absurd (unreported (asks refl))
+silent_unless_json false (Err stop) Same asks silent = λ no_device unasked unlisted unreported. silent refl no_device
 
 -- ---- what isn't mended
 
@@ -145,14 +154,23 @@ explained_by_all input window text first (Covered n) written is on =
     (on.0, on.1, on.2, on.3, (on.4.0, on.4.1, (explained.0, explained.1, says_all text first _ is explained.2, explained.3, explained.4)))
 explained_by_all input window text first Lost written is on = absurd on.4.2
 
+reported_by_all : (input : List ℕ) (window : ℕ) (text first : List ℕ) (verdict : Verdict) (written : List ℕ) → first ≡ take read_limit text
+    → IsReportedOn input window (Some first) verdict written → IsReportedOn input window (Some text) verdict written
+reported_by_all input window text first (Covered n) written is on =
+    let reported = on.4 in
+    (on.0, on.1, on.2, on.3, (reported.0, reported.1, says_all text first _ is reported.2, reported.3, reported.4))
+reported_by_all input window text first Lost written is on = absurd on.4
+
 -- the same as the options ask
 pub verdict_as_by_all : (options : CheckOptions) (input text first : List ℕ) (verdict : Verdict) (written : List ℕ) → first ≡ take read_limit text
     → IsVerdictAs options input (Some first) verdict written → IsVerdictAs options input (Some text) verdict written
-verdict_as_by_all options input text first verdict written is on = go options.explain on
+verdict_as_by_all options input text first verdict written is on = go options.json options.explain on
   where
-    go : (explain : Bool) → IsVerdictIf explain input options.window.seconds (Some first) verdict written → IsVerdictIf explain input options.window.seconds (Some text) verdict written
-    go false here = verdict_by_all input options.window.seconds text first verdict written is here
-    go true here = explained_by_all input options.window.seconds text first verdict written is here
+    go : (json explain : Bool) → IsVerdictIf json explain input options.window.seconds (Some first) verdict written
+        → IsVerdictIf json explain input options.window.seconds (Some text) verdict written
+    go true explain here = reported_by_all input options.window.seconds text first verdict written is here
+    go false true here = explained_by_all input options.window.seconds text first verdict written is here
+    go false false here = verdict_by_all input options.window.seconds text first verdict written is here
 
 pub fault_by_all : (input : List ℕ) (window : ℕ) (text first : List ℕ) (fault : RunFault) → first ≡ take read_limit text → check.IsRunFault input window (Some first) fault
     → check.IsRunFault input window (Some text) fault

@@ -15,7 +15,7 @@ use Rattle.mcv_records.specs.Text.{records_text, slot_lines}
 use Rattle.mcv_records.specs.declared.list.Shown.{Shown}
 use Rattle.mcv_records.specs.declared.list.Shown.TheVariants.{Pending, All}
 use Rattle.mcv_route.specs.Routes.{RoutesValue, within}
-use Rattle.mcv_show.specs.Explained.{IsVerdictAs}
+use Rattle.mcv_show.specs.AsAsked.{IsVerdictAs}
 use Rattle.mcv_spool.specs.File.{damage, slots}
 use Rattle.mcv_symbolic.specs.CoveredRoutes.{AreCovered}
 use Rattle.mcv_verdict.specs.Fault as check
@@ -119,6 +119,10 @@ IsListingStop (Run fault) = IsOutside fault
 IsListingStop (Mended fault) = ⊥
 IsListingStop NoChange = ⊥
 IsListingStop (Damaged slot) = ⊤
+
+-- the words ask for a verdict as a report, which a fault of the configuration or of the certificate has, too
+abbrev pub AsksReport : List Text → Type 0
+AsksReport words = (cert : Option Text) × (options : CheckOptions) × AsksCheck words cert options × (options.json ≡ true)
 
 -- the words ask for the records of a spool's file
 abbrev pub AsksAnySpool : List Text → Type 0

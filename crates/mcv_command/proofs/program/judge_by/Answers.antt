@@ -4,7 +4,7 @@ use Rattle.std.proofs.lemmas.Result.{err_from_is_err_and}
 use Rattle.mcv_command.specs.Program.{Held, IsJudgingFault}
 use Rattle.mcv_command.specs.declared.stop.Stop.{Stop}
 use Rattle.mcv_command.proofs.ProgramEnds.{fault_by_all, given_all, read_limit, verdict_as_by_all}
-use Rattle.mcv_show.specs.Explained.{IsVerdictAs}
+use Rattle.mcv_show.specs.AsAsked.{IsVerdictAs}
 use Rattle.mcv_verdict.specs.Fault as check
 use Rattle.mcv_command.proofs.program.judge_by.Goals as goal
 
