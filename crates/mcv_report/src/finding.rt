@@ -96,7 +96,10 @@ fn delete_report(alloc: Global, scene: &Scene<'_>, table: &[Moment]) -> Result<V
     let finding = scene.finding;
     let report = Object::new(alloc)
         .with("era", era_report(alloc, table, finding.place.era)?)?
-        .with("legs", leg_reports(alloc, scene, Op::Delete, finding.deletes.as_slice())?)?;
+        .with(
+            "legs",
+            leg_reports(alloc, scene, Op::Delete, finding.deletes.as_slice())?,
+        )?;
     Ok(report.value())
 }
 
@@ -109,7 +112,10 @@ fn get_report(alloc: Global, scene: &Scene<'_>, table: &[Moment]) -> Result<Valu
     let finding = scene.finding;
     let report = Object::new(alloc)
         .with("era", era_report(alloc, table, finding.place.get_era)?)?
-        .with("legs", leg_reports(alloc, scene, finding.op, finding.gets.as_slice())?)?;
+        .with(
+            "legs",
+            leg_reports(alloc, scene, finding.op, finding.gets.as_slice())?,
+        )?;
     Ok(report.value())
 }
 
