@@ -1,9 +1,9 @@
 -- What the program did, by what the words asked for.
-use Rattle.std.proofs.Common.{◌≡◌, ◌≢◌, ◌∙◌, ap, inl, inr, refl, ◌+◌, ◌<◌, ◌≤◌, ℕ, Bool, true, false, List, length, take, Option, None, Some, Result, Ok, Err, subst, sym, arith}
-use Rattle.std.specs.Prelude.{IfErr, IfSome, MatchOption}
+use Rattle.std.proofs.Common.{◌≡◌, ◌≢◌, ◌∙◌, ap, inl, inr, refl, ◌+◌, ◌<◌, ◌≤◌, ℕ, Bool, true, false, List, [], length, take, true≢false, Option, None, Some, Result, Ok, Err, subst, sym, arith}
+use Rattle.std.specs.Prelude.{IfErr, IfSome, MatchOption, bytes_eq, codes}
 use Rattle.std.proofs.lemmas.List.{length-take}
 use Rattle.std.proofs.lemmas.Option.{IfSome_then}
-use Rattle.clap.specs.Words.{Text}
+use Rattle.clap.specs.Words.{Row, Text, one_of}
 use Rattle.mcv_cert.specs.Reading.{Reading, Says, headless, over, reads, text_limit}
 use Rattle.mcv_input.proofs.FirstBytes.{whole}
 use Rattle.mcv_input.specs.Fault.{IsOutside}
@@ -24,9 +24,9 @@ use Rattle.mcv_verdict.specs.declared.verdict.Verdict.TheVariants.{Covered, Lost
 use Rattle.mcv_command.specs.declared.stop.Ending.{Ending}
 use Rattle.mcv_command.specs.declared.stop.Stop.{Stop}
 use Rattle.mcv_command.specs.declared.stop.Stop.TheVariants.{BadLine, Mended, NoChange, Run, Damaged}
-use Rattle.mcv_command.specs.Program.{Held, IfGiven, IsJudgingFault, IsListingStop, IsMendingStop, IsStop}
+use Rattle.mcv_command.specs.Program.{GivesJson, Held, IfGiven, IsJudgingFault, IsListingStop, IsMendingStop, IsReportedStop, IsStop}
 use Rattle.mcv_command.specs.Stop.{of_records, stop_of_mending}
-use Rattle.mcv_words.specs.Words.{AsksCheck, AsksMend, AsksRun, AsksSpool, RunOrder, SpoolOrder}
+use Rattle.mcv_words.specs.Words.{AsksCheck, AsksMend, AsksRun, AsksSpool, RunOrder, SpoolOrder, named}
 use Rattle.mcv_words.specs.declared.options.CheckOptions.{CheckOptions}
 
 -- ---- the faults of a verdict, as the program's
@@ -53,6 +53,39 @@ pub silent_unless_json : {T : Type 0} (json : Bool) (r : Result T Stop) (Same : 
 silent_unless_json json (Ok x) Same asks silent = tt
 silent_unless_json true (Err stop) Same asks silent = λ no_device unasked unlisted unreported. absurd (unreported (asks refl))
 silent_unless_json false (Err stop) Same asks silent = λ no_device unasked unlisted unreported. silent refl no_device
+
+-- ---- a report in place of a verdict
+
+-- a fault of a run that was reported
+pub reported_stop : (input old new : Option Text) (stop : Stop) (fault : RunFault) → stop ≡ Run fault → IsReportedStop input old new (Run fault) → IsReportedStop input old new stop
+reported_stop input old new stop fault is holds = subst (λ (s : Stop). IsReportedStop input old new s) (sym is) holds
+
+-- where memory ran out or a device failed, nothing is said of a report
+pub outside_unreported : (input old new : Option Text) (stop : Stop) (fault : RunFault) → stop ≡ Run fault → IsOutside fault → IsReportedStop input old new stop
+outside_unreported input old new stop fault is (inl memory) = reported_stop input old new stop fault is (λ no_memory no_device. absurd (no_memory memory))
+outside_unreported input old new stop fault is (inr device) = reported_stop input old new stop fault is (λ no_memory no_device. absurd (no_device device))
+
+-- the values of the command
+abbrev rows_of : Option (Text × List Row) → List Row
+rows_of None = []
+rows_of (Some command) = command.1
+
+-- the command is `check`
+abbrev is_check : Option (Text × List Row) → Bool
+is_check None = false
+is_check (Some command) = bytes_eq command.0 (codes "check")
+
+-- words that give `--json` ask for a report
+pub json_asked : (words : List Text) (cert : Option Text) (options : CheckOptions) → AsksCheck words cert options → GivesJson words → options.json ≡ true
+json_asked words cert options asks gives =
+    let same : gives.1 ≡ asks.1 = ap rows_of (sym gives.2 ∙ asks.2) in
+    let values = asks.3 in
+    let json = values.3 in
+    json.0 (subst (λ (rows : List Row). one_of (codes "json") rows ≡ Some (codes "true")) same gives.3)
+
+-- .. and name no other command
+pub json_of_check : (words : List Text) (name : Text) (rows : List Row) → GivesJson words → named words ≡ Some (name, rows) → bytes_eq name (codes "check") ≡ false → ⊥
+json_of_check words name rows gives is other = true≢false (ap is_check (sym gives.2 ∙ is) ∙ other)
 
 -- ---- what isn't mended
 

@@ -1,10 +1,11 @@
 use Rattle.std.proofs.Common.{◌∙◌, List, None, Some, ap, inl, inr, map, refl, sym, subst}
+use Rattle.std.specs.Prelude.{codes}
 use Rattle.std.proofs.lemmas.Result.{IfErr-weaker, IfOk-weaker, err_from_is_err_and}
 use Rattle.clap.specs.Words.{Text}
 use Rattle.mcv_command.specs.Program.{IsStop}
 use Rattle.mcv_command.specs.declared.stop.Stop.{Stop}
 use Rattle.mcv_command.specs.declared.stop.Stop.TheVariants.{Run}
-use Rattle.mcv_command.proofs.ProgramEnds.{judged_whole, judging_stop, listing_stop, mended_whole, mending_stop, run_is_whole, running_stop, silent_unless_json}
+use Rattle.mcv_command.proofs.ProgramEnds.{json_asked, json_of_check, judged_whole, judging_stop, listing_stop, mended_whole, mending_stop, outside_unreported, run_is_whole, running_stop, silent_unless_json}
 use Rattle.mcv_words.specs.Words.{order_of, spool_order_of}
 use Rattle.mcv_command.proofs.program.run_words.Goals as goal
 
@@ -168,3 +169,48 @@ pub returns-in-Ok-Run-clause-listed : goal.returns-in-Ok-Run-clause-listed
 returns-in-Ok-Run-clause-listed g c = λ slot is.
     let held = g.F.NamedFiles.held c.args.files.now in
     absurd (judged_whole _ held None c.in-Ok-Run.options.settings.window.seconds (g.R.Read.remaining c.args.reader.now) slot (c.serve.ensures.stop held) is)
+
+-- ---- reports
+
+pub returns-in_err-run_legs-in-Ok-Legs-clause-reported : goal.returns-in_err-run_legs-in-Ok-Legs-clause-reported
+returns-in_err-run_legs-in-Ok-Legs-clause-reported g c = λ gives.
+    let asks = rw c.in-Ok-Legs.field-0-is at c.in-Ok-Legs.ensures.job in
+    absurd (json_of_check _ (codes "legs") asks.1 gives asks.2 refl)
+
+pub returns-in_err-write_text-in-Err-Help-clause-reported : goal.returns-in_err-write_text-in-Err-Help-clause-reported
+returns-in_err-write_text-in-Err-Help-clause-reported g c =
+    let gone = err_from_is_err_and c.from_residual-in_err-write_text-in-Err-Help.result c.from_residual-in_err-write_text-in-Err-Help.ensures.1 in
+    rw (gone.1) (λ gives. outside_unreported _ _ _ gone.0 c.in_err-write_text-in-Err-Help.field-0.0 gone.2 (inr c.in_err-write_text-in-Err-Help.ensures.fault))
+
+pub returns-in_err-write_text-in-Err-Version-clause-reported : goal.returns-in_err-write_text-in-Err-Version-clause-reported
+returns-in_err-write_text-in-Err-Version-clause-reported g c =
+    let gone = err_from_is_err_and c.from_residual-in_err-write_text-in-Err-Version.result c.from_residual-in_err-write_text-in-Err-Version.ensures.1 in
+    rw (gone.1) (λ gives. outside_unreported _ _ _ gone.0 c.in_err-write_text-in-Err-Version.field-0.0 gone.2 (inr c.in_err-write_text-in-Err-Version.ensures.fault))
+
+pub returns-in-Err-Memory-clause-reported : goal.returns-in-Err-Memory-clause-reported
+returns-in-Err-Memory-clause-reported g c = λ gives no_memory no_device. absurd (no_memory refl)
+
+pub returns-in-Ok-Check-None-default-clause-reported : goal.returns-in-Ok-Check-None-default-clause-reported
+returns-in-Ok-Check-None-default-clause-reported g c = λ gives.
+    let asks = rw (c.in-Ok-Check-None-default.field-0-is, c.in-Ok-Check-None-default.field-0-0-is) at c.in-Ok-Check-None-default.ensures.job in
+    c.judge.ensures.reported (json_asked _ None c.in-Ok-Check-None-default.options asks gives)
+
+pub returns-in-Ok-Check-Some-default-clause-reported : goal.returns-in-Ok-Check-Some-default-clause-reported
+returns-in-Ok-Check-Some-default-clause-reported g c = λ gives.
+    let asks = rw (c.in-Ok-Check-Some-default.field-0-is, c.in-Ok-Check-Some-default.field-0-0-is) at c.in-Ok-Check-Some-default.ensures.job in
+    c.judge_by.ensures.reported (json_asked _ (Some c.in-Ok-Check-Some-default.name.now) c.in-Ok-Check-Some-default.options asks gives)
+
+pub returns-in-Ok-Mend-clause-reported : goal.returns-in-Ok-Mend-clause-reported
+returns-in-Ok-Mend-clause-reported g c = λ gives.
+    let asks = rw c.in-Ok-Mend.field-0-is at c.in-Ok-Mend.ensures.job in
+    absurd (json_of_check _ (codes "mend") asks.1 gives asks.2 refl)
+
+pub returns-in-Ok-Run-clause-reported : goal.returns-in-Ok-Run-clause-reported
+returns-in-Ok-Run-clause-reported g c = λ gives.
+    let asks = rw c.in-Ok-Run.field-0-is at c.in-Ok-Run.ensures.job in
+    absurd (json_of_check _ (codes "run") asks.1 gives asks.2 refl)
+
+pub returns-in-Ok-Spool-clause-reported : goal.returns-in-Ok-Spool-clause-reported
+returns-in-Ok-Spool-clause-reported g c = λ gives.
+    let asks = rw c.in-Ok-Spool.field-0-is at c.in-Ok-Spool.ensures.job in
+    absurd (json_of_check _ (codes "spool") asks.1 gives asks.2 refl)
