@@ -1,5 +1,5 @@
 -- Reports nest no deeper than JSON is read.
-use Rattle.std.proofs.Common.{◌≤◌, ℕ, suc, List, [], ◌∷◌, ◌++◌, map, Bool, true, false, cond, Option, Some, None, arith, option_map, slice_get, slice_index}
+use Rattle.std.proofs.Common.{◌≤◌, ℕ, suc, List, [], ◌∷◌, ◌++◌, map, Bool, true, false, cond, Option, Some, None, arith, slice_get, slice_index}
 use Rattle.std.specs.Prelude.{nat_lt}
 use Rattle.serde_json.specs.Data.{Data, null, boolean, number, string, array, object, Members, no_members, member, depth, items_depth, members_depth}
 use Rattle.serde_json.specs.Read.{max_depth}
@@ -14,7 +14,7 @@ use Rattle.mcv_names.specs.declared.fault.ConfigFault.{ConfigFault}
 use Rattle.mcv_pools.specs.Symbol.{SymbolValue}
 use Rattle.mcv_route.specs.Outcomes.{History}
 use Rattle.mcv_report.specs.CertificateReport.{covered_report, pair_report, reason_index, reason_legs}
-use Rattle.mcv_report.specs.FaultReport.{certificate_fault_report, config_fault_report, refused_report}
+use Rattle.mcv_report.specs.FaultReport.{certificate_fault_report, column_of, config_fault_report, line_of, refused_report}
 use Rattle.mcv_report.specs.FindingReport.{era_report, finding_report, index_list, index_report, leg_report, lost_report, opened_at, request_report, route_report, server_report}
 use Rattle.mcv_report.specs.Json.{number_or_null, text_from}
 
@@ -147,7 +147,7 @@ config_fault_within : (f : ConfigFault) (place : Option (ℕ × ℕ)) → depth 
 unfolding config_fault_report
 config_fault_within f place =
     object_within 0 (members_of (config_fault_report f place))
-    (number_within (option_map (λ p. p.1) place) 0, (flat 0, (number_within (option_map (λ p. p.0) place) 0, (flat 0, (flat 0, (flat 0, tt))))))
+    (number_within (column_of place) 0, (flat 0, (number_within (line_of place) 0, (flat 0, (flat 0, (flat 0, tt))))))
 
 certificate_fault_within : (kind : List ℕ) (line : Option ℕ) (name : List ℕ) (n : ℕ) → depth (certificate_fault_report kind line name n) ≤ 1
 unfolding certificate_fault_report

@@ -13,12 +13,18 @@ use Rattle.mcv_faults.specs.FaultName.{fault_name}
 use Rattle.mcv_faults.specs.FaultPointer.{fault_pointer}
 use Rattle.mcv_report.specs.Json.{number_from, number_or_null, object_from, schema_version, text_from}
 
+abbrev pub line_of : Option (ℕ × ℕ) → Option ℕ
+line_of place = option_map (λ p. p.0) place
+
+abbrev pub column_of : Option (ℕ × ℕ) → Option ℕ
+column_of place = option_map (λ p. p.1) place
+
 -- a fault of the configuration, with its line and its column where they are known
 unfoldable pub config_fault_report : ConfigFault → Option (ℕ × ℕ) → Data
 config_fault_report f place = object_from (
-    (codes "column", number_or_null (option_map (λ p. p.1) place))
+    (codes "column", number_or_null (column_of place))
     ∷ (codes "kind", text_from (codes "configuration"))
-    ∷ (codes "line", number_or_null (option_map (λ p. p.0) place))
+    ∷ (codes "line", number_or_null (line_of place))
     ∷ (codes "name", text_from (fault_name f.kind))
     ∷ (codes "number", number_from (fault_number f))
     ∷ (codes "pointer", text_from (fault_pointer (fault_path f))) ∷ [])

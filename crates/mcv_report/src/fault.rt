@@ -3,7 +3,7 @@
 ghost use Rattle.std.specs.Prelude.{◌≡◌, IfOk, option_map};
 ghost use Rattle.serde_json.specs.View.{view};
 ghost use Rattle.mcv_report.specs.Json.{IsJsonOf};
-ghost use Rattle.mcv_report.specs.FaultReport.{certificate_fault_report, config_fault_report, pair_fault_name, pair_fault_report, refused_report, text_fault_name, text_fault_report, window_fault_report};
+ghost use Rattle.mcv_report.specs.FaultReport.{certificate_fault_report, column_of, config_fault_report, line_of, pair_fault_name, pair_fault_report, refused_report, text_fault_name, text_fault_report, window_fault_report};
 
 use crate::object::Object;
 use crate::text::report_text;
@@ -119,6 +119,24 @@ fn refused_report(alloc: Global, fault: Value) -> Result<Value, AllocError>
     Ok(report.value())
 }
 
+fn line_of(place: Option<TextPlace>) -> Option<usize>
+    ensures { result ≡ line_of (option_map (λ p. (p.line, p.column)) place) }
+{
+    match place {
+        Some(place) => Some(place.line),
+        None => None,
+    }
+}
+
+fn column_of(place: Option<TextPlace>) -> Option<usize>
+    ensures { result ≡ column_of (option_map (λ p. (p.line, p.column)) place) }
+{
+    match place {
+        Some(place) => Some(place.column),
+        None => None,
+    }
+}
+
 #[tactic(auto, unfolding(crate::specs::FaultReport::config_fault_report))]
 fn config_fault_report(
     alloc: Global,
@@ -129,9 +147,9 @@ fn config_fault_report(
 {
     let pointer = fault_pointer(alloc, fault.path().as_bytes())?;
     let report = Object::new(alloc)
-        .number_or_null("column", place.map(|place| place.column))?
+        .number_or_null("column", column_of(place))?
         .text("kind", b"configuration")?
-        .number_or_null("line", place.map(|place| place.line))?
+        .number_or_null("line", line_of(place))?
         .text("name", fault_name(fault.kind).as_bytes())?
         .number("number", fault.number() as usize)?
         .text("pointer", pointer.as_slice())?;
