@@ -50,7 +50,7 @@ fn covered_report(
 }
 
 fn pair_reports(alloc: Global, document: &Value, pairs: &[Pair]) -> Result<Value, AllocError>
-    ensures { IfOk result (λ v. view v ≡ list_from (map (λ p. pair_report (view document.now) (pair_of p)) pairs.now)) }
+    ensures { IfOk result (λ v. view v ≡ list_from (map (pair_report (view document.now)) (map pair_of pairs.now))) }
 {
     let mut reports = Vec::with_capacity(alloc, pairs.len())?;
     for pair in pairs {

@@ -5,4 +5,4 @@ use Rattle.mcv_report.specs.CertificateReport.{pair_report}
 use Rattle.mcv_report.proofs.certificate.pair_reports.Given as goal
 
 abbrev pub invariant-loop-pair : goal.invariant-loop-pair
-invariant-loop-pair l = map view l.reports.items ≡ map (λ p. pair_report (view l.document) (pair_of p)) (take l.pair-index l.pairs)
+invariant-loop-pair l = map view l.reports.items ≡ map (pair_report (view l.document)) (map pair_of (take l.pair-index l.pairs))
