@@ -2,6 +2,8 @@
 
 ghost use Rattle.std.specs.Prelude.{◌≡◌, IfOk, option_map};
 ghost use Rattle.serde_json.specs.View.{view};
+ghost use Rattle.mcv_faults.specs.FaultPointer.{fault_pointer};
+ghost use Rattle.mcv_names.specs.Fault.{fault_path};
 ghost use Rattle.mcv_report.specs.Json.{IsJsonOf};
 ghost use Rattle.mcv_report.specs.FaultReport.{certificate_fault_report, column_of, config_fault_report, line_of, pair_fault_name, pair_fault_report, refused_report, text_fault_name, text_fault_report, window_fault_report};
 
@@ -137,6 +139,13 @@ fn column_of(place: Option<TextPlace>) -> Option<usize>
     }
 }
 
+/// The JSON pointer of a fault's path.
+fn pointer_of(alloc: Global, fault: &ConfigFault) -> Result<Vec<u8>, AllocError>
+    ensures { IfOk result (λ pointer. pointer.items ≡ fault_pointer (fault_path fault.now)) }
+{
+    fault_pointer(alloc, fault.path().as_bytes())
+}
+
 #[tactic(auto, unfolding(crate::specs::FaultReport::config_fault_report))]
 fn config_fault_report(
     alloc: Global,
@@ -145,7 +154,7 @@ fn config_fault_report(
 ) -> Result<Value, AllocError>
     ensures { IfOk result (λ v. view v ≡ config_fault_report fault.now (option_map (λ p. (p.line, p.column)) place)) }
 {
-    let pointer = fault_pointer(alloc, fault.path().as_bytes())?;
+    let pointer = pointer_of(alloc, fault)?;
     let report = Object::new(alloc)
         .number_or_null("column", column_of(place))?
         .text("kind", b"configuration")?
