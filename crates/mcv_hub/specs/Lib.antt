@@ -3,3 +3,5 @@ pub mod History
 pub mod State
 pub mod Receipts
 pub mod Events
+pub mod Weights
+pub mod Gate

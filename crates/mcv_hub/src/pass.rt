@@ -34,6 +34,13 @@ impl<B: Ledger, T: Ledger> Passes<B, T> {
         Passes { left, begun, taken }
     }
 
+    /// How many seats are left.
+    pub fn left(&self) -> u64
+        ensures { result ≡ self.now.left }
+    {
+        self.left
+    }
+
     /// A pass for one worker or session.
     pub fn pass(&self) -> Pass {
         Pass { alone: PhantomData }

@@ -5,30 +5,26 @@ ghost use Rattle.std.specs.Arc.{arc_value};
 ghost use Rattle.std.specs.List.{All, filter};
 ghost use Rattle.mcv_text.specs.Request.{request_value};
 ghost use Rattle.mcv_session.specs.Desk.{keys_of};
-ghost use Rattle.mcv_proxy.specs.Desk.{AreBegun, AreFor, AreTaken, Asks, HasMissing, IsFor, IsRouted, IsUnanswered, IsUnrouted, WasBegun, WasMissing, WasRefused, WasTaken, desk_fault, with_receipt, word_at};
+ghost use Rattle.mcv_proxy.specs.Desk.{AreBegun, AreFor, AreTaken, Asks, HasMissing, IsFor, IsRouted, IsUnanswered, IsUnrouted, WasAsked, WasBegun, WasMissing, WasRefused, WasTaken, desk_fault, with_receipt, word_at};
 
 use crate::agenda::Agenda;
 use crate::errands::Errands;
 use crate::events;
-use crate::events::Attempt;
 use crate::gates::{Link, Watch};
 use crate::lanes::{Lanes, Links};
-use mcv_base::{CallId, Op, Part, Request, Rest, key_words_have_one_reading, split_key};
+use mcv_base::{CallId, Moment, Op, Part, Request, Rest, key_words_have_one_reading, split_key};
 use mcv_core::CoreFault;
-use mcv_hub::{Bell, Guard, Hub, HubLedger, Pass, Receipt, Seat, TakenReply};
+use mcv_hub::{Bell, Gate, Guard, Hub, HubLedger, Pass, Receipt, Seat, TakenReply};
 use mcv_route::Routes;
 use mcv_session::{Desk, DeskFault};
 use std::alloc::{AllocError, Global};
 use std::rt::Clock;
 use std::sync::ledger::Ledger;
 use std::sync::{Arc, Wait};
-use std::time::{Duration, Instant};
+use std::time::Duration;
 
-/// How long a call waits for a place in the chapter, in milliseconds.
+/// How long a call waits for the next chapter at most, in milliseconds.
 const PATIENCE: u64 = 1_000;
-
-/// How long it waits each time at most, in milliseconds.
-const PAUSE: u64 = 10;
 
 /// What calls of a hub take: the ways to the servers, the pass and the seat of one session, its watch and its errands.
 #[derive(Drop)]
@@ -190,32 +186,8 @@ fn are_for(routes: &Routes, request: &Request, taken: &[TakenReply]) -> bool
     true
 }
 
-/// When a call began to wait for a place in the chapter.
-#[derive(Clone, Copy)]
-struct Patience {
-    since: Option<Instant>,
-}
-
-impl Patience {
-    /// Whether a call has waited for `PATIENCE`; it begins to wait where it is asked first. Where the clock can't be read it
-    /// has.
-    fn is_over<R: Clock>(&mut self, rt: &R) -> bool {
-        let Ok(now) = Instant::now(rt) else {
-            return true;
-        };
-        match self.since {
-            Some(since) => now.duration_since(since) >= Duration::from_millis(PATIENCE),
-            None => {
-                self.since = Some(now);
-                false
-            }
-        }
-    }
-}
-
-/// Begins a call. Where the chapter has no place for it, a new chapter begins first, and the call is begun once more. The
-/// first key of a request waits for that a second at most, while calls run or legs are queued; for another one the
-/// request's own calls run, so it is refused.
+/// Begins a call for one key of a request. Where the next chapter is due the first key waits for it, and begins in the old one
+/// where that takes too long; for another key the request's own calls run, so it doesn't wait.
 fn begin_in_chapter<'a, B: HubLedger, T: Ledger, R: Wait + Clock>(
     rt: &R,
     alloc: Global,
@@ -233,17 +205,15 @@ fn begin_in_chapter<'a, B: HubLedger, T: Ledger, R: Wait + Clock>(
     ensures taken { seat.new.taken.amount ≡ seat.old.taken.amount }
 {
     let mut guard = guard;
-    let mut patience = Patience { since: None };
-    for _attempt in rt.forever() {
-        let Attempt { begun, may_wait } = events::begin_in_turn(
-            alloc, agenda, &mut guard, seat, request, key,
-        );
-        if !may_wait || key > 0 || patience.is_over(rt) {
-            return (guard, begun);
+    if key == 0 {
+        let (entered, gate) = hub.enter(rt, alloc, guard, Duration::from_millis(PATIENCE));
+        guard = entered;
+        if let Gate::Turned(past) = gate {
+            agenda.note_turned(past);
         }
-        guard = hub.wait_for(rt, guard, Bell::Chapter, Duration::from_millis(PAUSE));
     }
-    unreachable!()
+    let begun = events::begin_in_turn(alloc, agenda, &mut guard, seat, request, key);
+    (guard, begun)
 }
 
 /// Begins the calls for the keys of a request, in their order, up to the first that is refused.
@@ -357,7 +327,7 @@ fn go_on<B: HubLedger, T: Ledger, L: Link, R: Wait>(
         progress = take_ready(&mut guard, seat, calls, progress, taken);
         let Some(call) = calls.get(progress.done) else {
             errands.agenda.leave(guard.core());
-            events::turn_where_full(&mut errands.agenda, &mut guard, errands.turn_from);
+            errands.agenda.turn_where_due(&mut guard);
             return progress;
         };
         let has_lost = errands.set_off(rt, alloc, lanes, &mut guard, calls, Some(*call));
@@ -551,8 +521,7 @@ impl<'a, B: HubLedger, T: Ledger, L: Link, W: Watch, R: Wait + Clock> Caller<'a,
 }
 
 impl<'a, B: HubLedger, T: Ledger, L: Link, W: Watch, R: Wait + Clock> HubDesk<'a, B, T, L, W, R> {
-    /// A desk over a hub that has answered nothing. Once the hub's chapter has `turn_from` entries or more a
-    /// new one begins as soon as no call runs and no leg is queued.
+    /// A desk over a hub that has answered nothing.
     pub fn new(
         rt: &'a R,
         alloc: Global,
@@ -562,7 +531,6 @@ impl<'a, B: HubLedger, T: Ledger, L: Link, W: Watch, R: Wait + Clock> HubDesk<'a
         pass: Pass,
         seat: Seat<B, T>,
         watch: W,
-        turn_from: usize,
     ) -> HubDesk<'a, B, T, L, W, R>
         ensures seat { result.caller.seat ≡ seat }
         ensures receipts { result.kept.receipts.items ≡ [] }
@@ -577,7 +545,7 @@ impl<'a, B: HubLedger, T: Ledger, L: Link, W: Watch, R: Wait + Clock> HubDesk<'a
                 pass,
                 seat,
                 watch,
-                errands: Errands::new(alloc, hub, turn_from),
+                errands: Errands::new(alloc, hub),
             },
             kept: Kept::new(alloc),
         }
@@ -660,5 +628,22 @@ impl<'a, B: HubLedger, T: Ledger, L: Link, W: Watch, R: Wait + Clock> Desk
             Ok(()) => Ok(into_parts(taken, parts)),
             Err(fault) => Err(fault_for(fault)),
         }
+    }
+}
+
+impl<'a, B: HubLedger, T: Ledger, L: Link, R: Wait + Clock> HubDesk<'a, B, T, L, Moment, R> {
+    ghost use Rattle.mcv_session.specs.Desk.{HasOneEach, answer_value};
+
+    /// As `ask`, at this moment.
+    pub fn ask_then(
+        &mut self,
+        moment: Moment,
+        request: &Arc<Request>,
+    ) -> Result<Vec<Part>, DeskFault>
+        ensures asks { WasAsked B.opened (request_value (arc_value request.now)) (answer_value result) }
+        ensures each { HasOneEach (request_value (arc_value request.now)) (answer_value result) }
+    {
+        self.caller.watch = moment;
+        self.ask(request)
     }
 }

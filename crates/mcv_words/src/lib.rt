@@ -7,6 +7,6 @@ mod options;
 mod words;
 
 pub use options::{
-    ClientTimeout, InRange, Proxies, RunOptions, ServerTimeout, Sessions, Settings, Window,
+    ClientTimeout, Hubs, InRange, RunOptions, ServerTimeout, Sessions, Settings, Window,
 };
 pub use words::{Job, LineFault, read_words};
