@@ -12,6 +12,7 @@ use Rattle.mcv_events.specs.Rows as rows
 use Rattle.mcv_events.specs.Rows.{CallRow, LegRow, Rows, awaits}
 use Rattle.mcv_core.specs.declared.dispatcher.Dispatcher.{Dispatcher}
 use Rattle.mcv_core.specs.declared.errand.Errand.{Errand}
+use Rattle.mcv_core.specs.Errands.{laid_request}
 use Rattle.mcv_core.specs.declared.readers.CallView.{CallView}
 use Rattle.mcv_core.specs.declared.readers.LegView.{LegView}
 use Rattle.mcv_core.specs.declared.step.LegState.{LegState}
@@ -78,7 +79,7 @@ seen_row s = record { call = s.call; server = s.launch.server; op = s.launch.op;
 
 -- what the client asked whose call launched the leg
 abbrev pub request_in : Errand → Option Request
-request_in e = option_map arc_value (arc_value e.laid).request
+request_in e = laid_request (arc_value e.laid)
 
 abbrev pub request_of : Dispatcher → ℕ → Option Request
 request_of d n = option_and_then (λ (l : Leg Errand). request_in l.content) (legs d.queues n)

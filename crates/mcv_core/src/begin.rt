@@ -165,7 +165,7 @@ impl Dispatcher {
         requires choice { IsChoice (sizes_of (core_view self.old).routes) (slice_index asked.choice) }
         ensures moves { OnOk result (Moved (core_view self.old) (core_view self.new) (began_for asked)) }
         ensures call { IfOk result (λ call. call.0 ≡ (core_view self.old).rows.next_call) }
-        ensures view { OnOk result (HasBegun (core_view self.old) (core_view self.new) (asked_call (core_view self.old) asked)) }
+        ensures view { OnOk result (HasBegun (core_view self.old) (core_view self.new) (asked_call (core_view self.old) asked) (Some (arc_value asked.request))) }
         ensures refused { IfErr result (IsUnstarted (core_view self.old) asked) }
         ensures err { OnErr result (core_view self.new ≡ core_view self.old) }
     {
@@ -197,7 +197,7 @@ impl Dispatcher {
         requires can { CanStart self.old asked state launches.items }
         ensures moves { OnOk result (Moved (core_view self.old) (core_view self.new) (began_for asked)) }
         ensures call { IfOk result (λ call. call.0 ≡ (core_view self.old).rows.next_call) }
-        ensures view { OnOk result (HasBegun (core_view self.old) (core_view self.new) (asked_call (core_view self.old) asked)) }
+        ensures view { OnOk result (HasBegun (core_view self.old) (core_view self.new) (asked_call (core_view self.old) asked) (Some (arc_value asked.request))) }
         ensures memory { IfErr result (λ fault. fault ≡ OutOfMemory) }
         ensures err { OnErr result (core_view self.new ≡ core_view self.old) }
     {
