@@ -32,6 +32,7 @@ fn one_seat<B: HubLedger, T: Ledger>(
 ) -> (Hub<B, T>, Passes<B, T>)
     requires begun { (begun.name ≡ B.name) × (begun.parts ≡ B.parts) × (begun.parts ≡ SEATS + 1) }
     requires taken { (taken.name ≡ T.name) × (taken.parts ≡ T.parts) × (taken.parts ≡ SEATS + 1) }
+    requires number { 0 ≡ B.number }
     requires opened { B.opened ≡ opened_view (arc_value accepted) [] }
 {
     let capacity = Capacity {
@@ -106,6 +107,7 @@ fn three_chapters<B: HubLedger, T: Ledger>(
 )
     requires begun { (begun.name ≡ B.name) × (begun.parts ≡ B.parts) × (begun.parts ≡ SEATS + 1) }
     requires taken { (taken.name ≡ T.name) × (taken.parts ≡ T.parts) × (taken.parts ≡ SEATS + 1) }
+    requires number { 0 ≡ B.number }
     requires opened { B.opened ≡ opened_view (arc_value accepted) [] }
 {
     let (hub, mut passes) = one_seat::<B, T>(rt, accepted, begun, taken);
@@ -141,6 +143,7 @@ fn large_values<B: HubLedger, T: Ledger>(
 )
     requires begun { (begun.name ≡ B.name) × (begun.parts ≡ B.parts) × (begun.parts ≡ SEATS + 1) }
     requires taken { (taken.name ≡ T.name) × (taken.parts ≡ T.parts) × (taken.parts ≡ SEATS + 1) }
+    requires number { 0 ≡ B.number }
     requires opened { B.opened ≡ opened_view (arc_value accepted) [] }
 {
     let (hub, mut passes) = one_seat::<B, T>(rt, accepted, begun, taken);
@@ -208,6 +211,7 @@ fn awaited_chapter<B: HubLedger, T: Ledger>(
 )
     requires begun { (begun.name ≡ B.name) × (begun.parts ≡ B.parts) × (begun.parts ≡ SEATS + 1) }
     requires taken { (taken.name ≡ T.name) × (taken.parts ≡ T.parts) × (taken.parts ≡ SEATS + 1) }
+    requires number { 0 ≡ B.number }
     requires opened { B.opened ≡ opened_view (arc_value accepted) [] }
 {
     let (short, long) = (Duration::from_millis(20), Duration::from_secs(3_600));
@@ -261,6 +265,7 @@ fn heavy_chapter<B: HubLedger, T: Ledger>(
 )
     requires begun { (begun.name ≡ B.name) × (begun.parts ≡ B.parts) × (begun.parts ≡ SEATS + 1) }
     requires taken { (taken.name ≡ T.name) × (taken.parts ≡ T.parts) × (taken.parts ≡ SEATS + 1) }
+    requires number { 0 ≡ B.number }
     requires opened { B.opened ≡ opened_view (arc_value accepted) [] }
 {
     let (hub, mut passes) = one_seat::<B, T>(rt, accepted, begun, taken);

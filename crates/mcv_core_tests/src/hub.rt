@@ -190,6 +190,7 @@ fn hub_of<B: HubLedger, T: Ledger>(
 ) -> (Hub<B, T>, Passes<B, T>)
     requires begun { (begun.name ≡ B.name) × (begun.parts ≡ B.parts) × (begun.parts ≡ SEATS + 1) }
     requires taken { (taken.name ≡ T.name) × (taken.parts ≡ T.parts) × (taken.parts ≡ SEATS + 1) }
+    requires number { 0 ≡ B.number }
     requires opened { B.opened ≡ opened_view (arc_value accepted) [] }
 {
     let capacity = Capacity {
@@ -208,6 +209,7 @@ fn two_seats<B: HubLedger, T: Ledger>(
 )
     requires begun { (begun.name ≡ B.name) × (begun.parts ≡ B.parts) × (begun.parts ≡ SEATS + 1) }
     requires taken { (taken.name ≡ T.name) × (taken.parts ≡ T.parts) × (taken.parts ≡ SEATS + 1) }
+    requires number { 0 ≡ B.number }
     requires opened { B.opened ≡ opened_view (arc_value accepted) [] }
 {
     let (hub, mut passes) = hub_of::<B, T>(rt, accepted, begun, taken);

@@ -282,4 +282,11 @@ impl<'a, B: HubLedger, T: Ledger> Guard<'a, B, T> {
     {
         self.state.is_opened()
     }
+
+    /// The hub has the number of its ledger, which is the one that its receipts name.
+    pub fn is_numbered(&self)
+        ensures { self.now.hub ≡ B.number }
+    {
+        self.state.is_numbered()
+    }
 }

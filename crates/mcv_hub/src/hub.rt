@@ -125,6 +125,7 @@ impl<B: HubLedger, T: Ledger> Hub<B, T> {
     ) -> Result<(Hub<B, T>, Passes<B, T>), CoreFault>
         requires begun { (begun.name ≡ B.name) × (begun.parts ≡ B.parts) × (begun.parts ≡ capacity.seats + 1) }
         requires taken { (taken.name ≡ T.name) × (taken.parts ≡ T.parts) × (taken.parts ≡ capacity.seats + 1) }
+        requires number { hub ≡ B.number }
         requires opened { B.opened ≡ opened_view (arc_value accepted) records.now }
         ensures seats { IfOk result (λ r. r.1.left ≡ capacity.seats) }
         ensures err { IfErr result (λ fault. fault ≡ OutOfMemory) }

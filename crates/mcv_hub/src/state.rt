@@ -85,7 +85,7 @@ impl<B: HubLedger, T: Ledger> Model for HubState<B, T> {
 
     ghost view = { λ s. record { core = s.core.dispatcher; history = s.history.entries.items; hub = s.hub; chapter = s.chapter; entries_before = s.entries_before; begun = s.begun.total; taken = s.taken.total; begun_before = s.begun_before; taken_before = s.taken_before } };
 
-    ghost invariant = { λ s. IsHub (core_view s.core.dispatcher) s.history.entries.items s.chapter s.begun.total s.taken.total s.begun_before s.taken_before × HasRoom (vec_len s.history.entries) (vec_capacity s.history.entries) s.places (may_write (core_view s.core.dispatcher)) × (s.breaks ≡ break_count (core_view s.core.dispatcher).routes) × IsOpenedAs B.opened (core_view s.core.dispatcher) s.history.entries.items s.chapter };
+    ghost invariant = { λ s. (IsHub (core_view s.core.dispatcher) s.history.entries.items s.chapter s.begun.total s.taken.total s.begun_before s.taken_before × HasRoom (vec_len s.history.entries) (vec_capacity s.history.entries) s.places (may_write (core_view s.core.dispatcher)) × (s.breaks ≡ break_count (core_view s.core.dispatcher).routes) × IsOpenedAs B.opened (core_view s.core.dispatcher) s.history.entries.items s.chapter) × (s.hub ≡ B.number) };
 }
 
 /// How many breaks the routes have, which are covered.
@@ -168,6 +168,7 @@ impl<B: HubLedger, T: Ledger> HubState<B, T> {
     ) -> Result<(HubState<B, T>, Share<B>, Share<T>), CoreFault>
         requires begun { (begun.name ≡ B.name) × (begun.parts ≡ B.parts) }
         requires taken { (taken.name ≡ T.name) × (taken.parts ≡ T.parts) }
+        requires number { hub ≡ B.number }
         requires opened { B.opened ≡ opened_view (arc_value accepted) records.now }
         ensures view { IfOk result (λ r. core_view r.0.core ≡ opened_view (arc_value accepted) records.now) }
         ensures history { IfOk result (λ r. (r.0.history ≡ []) × (r.0.hub ≡ hub) × (r.0.chapter ≡ 0)) }
@@ -507,6 +508,13 @@ impl<B: HubLedger, T: Ledger> HubState<B, T> {
     /// The hub is the one that was opened so.
     pub(crate) fn is_opened(&self)
         ensures { IsOf B.opened self.now }
+    {
+        let _core = &self.core;
+    }
+
+    /// The hub has this number.
+    pub(crate) fn is_numbered(&self)
+        ensures { self.now.hub ≡ B.number }
     {
         let _core = &self.core;
     }

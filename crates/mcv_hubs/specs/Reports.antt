@@ -10,12 +10,13 @@ use Rattle.mcv_hub.specs.declared.receipts.ReceiptFault.TheVariants as faults
 use Rattle.mcv_hub.specs.declared.receipts.Report.{Report}
 use Rattle.mcv_hubs.specs.Counts.{Tally}
 
--- ---- one hub, whose books have these parts
+-- ---- one hub, which has this number, and whose books have these parts
 
 -- under its lock, in a state in which deletes are kept, its books counted this, and these receipts passed; shares that have all parts of
 -- a book counted the same
-pub record IsReportOf (begun_parts taken_parts : ℕ) (receipts : List Receipt) (t : Tally) (report : Report) : Type 0 where
+pub record IsReportOf (hub begun_parts taken_parts : ℕ) (receipts : List Receipt) (t : Tally) (report : Report) : Type 0 where
   pub state : HubView
+  pub number : state.hub ≡ hub
   pub keeps : HistoryKeepsDeletes (core_view state.core) state.history
   pub begun : report.begun ≡ state.begun
   pub taken : report.taken ≡ state.taken
@@ -24,14 +25,15 @@ pub record IsReportOf (begun_parts taken_parts : ℕ) (receipts : List Receipt) 
   pub all_taken : t.taken_parts ≡ taken_parts → report.taken ≡ t.taken
 
 -- under its lock they were refused
-pub record WereRefused (receipts : List Receipt) (fault : ReceiptFault) : Type 0 where
+pub record WereRefused (hub : ℕ) (receipts : List Receipt) (fault : ReceiptFault) : Type 0 where
   pub state : HubView
+  pub number : state.hub ≡ hub
   pub refused : AreRefused state.hub state.chapter state.history receipts fault
 
 -- its answer. Memory may run out before it is asked
-abbrev pub IsAnswerOf : (begun_parts taken_parts : ℕ) → List Receipt → Tally → Result Report ReceiptFault → Type 0
-IsAnswerOf begun_parts taken_parts receipts t (Ok report) = IsReportOf begun_parts taken_parts receipts t report
-IsAnswerOf begun_parts taken_parts receipts t (Err fault) = (fault ≡ faults.Memory) ⊎ WereRefused receipts fault
+abbrev pub IsAnswerOf : (hub begun_parts taken_parts : ℕ) → List Receipt → Tally → Result Report ReceiptFault → Type 0
+IsAnswerOf hub begun_parts taken_parts receipts t (Ok report) = IsReportOf hub begun_parts taken_parts receipts t report
+IsAnswerOf hub begun_parts taken_parts receipts t (Err fault) = (fault ≡ faults.Memory) ⊎ WereRefused hub receipts fault
 
 -- ---- all hubs
 
@@ -44,7 +46,7 @@ AreAnswersFrom begun_parts taken_parts hub receipts [] [] = ⊤
 AreAnswersFrom begun_parts taken_parts hub receipts [] (answer ∷ answers) = ⊥
 AreAnswersFrom begun_parts taken_parts hub receipts (t ∷ ts) [] = ⊥
 AreAnswersFrom begun_parts taken_parts hub receipts (t ∷ ts) (answer ∷ answers) =
-    IsAnswerOf begun_parts taken_parts (receipts_at hub receipts) t answer × AreAnswersFrom begun_parts taken_parts (hub + 1) receipts ts answers
+    IsAnswerOf hub begun_parts taken_parts (receipts_at hub receipts) t answer × AreAnswersFrom begun_parts taken_parts (hub + 1) receipts ts answers
 
 -- a count that is too large for 64 bits is 2^64 - 1
 abbrev pub sum_of_two : Report → Report → Report

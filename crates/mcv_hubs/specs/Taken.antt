@@ -13,16 +13,19 @@ use Rattle.mcv_hubs.specs.Choice.{IsHubOf}
 use Rattle.mcv_hubs.specs.Counts.{Tally, begun_by, change_at}
 use Rattle.mcv_hubs.specs.declared.hubs.HubCall.{HubCall}
 
--- a call began for the key, or was refused
-pub record WasBegun (request : Request) (key : ℕ) (result : Result CallId CoreFault) : Type 0 where
+-- a call began for the key at the hub of this number, or was refused there
+pub record WasBegun (hub : ℕ) (request : Request) (key : ℕ) (result : Result CallId CoreFault) : Type 0 where
   pub before : HubView
   pub after : HubView
+  pub number : before.hub ≡ hub
   pub event : IsHubBegun before request key result after
 
--- the reply of the call was taken, or it has none, or no such call runs; deletes were kept
-pub record WasTaken (call : CallId) (result : Result (Option TakenReply) CoreFault) : Type 0 where
+-- the reply of the call was taken at the hub of this number, which its receipt names, or it has none, or no such call runs there; deletes
+-- were kept
+pub record WasTaken (hub : ℕ) (call : CallId) (result : Result (Option TakenReply) CoreFault) : Type 0 where
   pub before : HubView
   pub after : HubView
+  pub number : before.hub ≡ hub
   pub keeps : HistoryKeepsDeletes (core_view before.core) before.history
   pub event : IsHubEvent (IsTaken (core_view before.core) call (taken_part result)) before after
   pub receipt : IfOk result (λ o. IfSome o (IsReceived before call))
@@ -38,5 +41,5 @@ pub record IsBegunAt (hubs : ℕ) (request : Request) (key : ℕ) (old : List Ta
   pub hub : ℕ
   pub of_key : IsHubOf hubs request key hub
   pub named : IfOk result (λ c. c.hub ≡ hub)
-  pub event : WasBegun request key (call_of result)
+  pub event : WasBegun hub request key (call_of result)
   pub counted : new ≡ change_at hub (begun_by result) old

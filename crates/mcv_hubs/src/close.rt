@@ -70,7 +70,7 @@ fn close_one<B: HubLedger, T: Ledger, R: Wait>(
     seat: &mut Seat<B, T>,
     named: (&[Receipt], usize),
 ) -> Result<Report, ReceiptFault>
-    ensures answer { IsAnswerOf B.parts T.parts (receipts_at named.entry.1 named.entry.0.now) (tally seat.old.begun.amount seat.old.taken.amount seat.old.begun.parts seat.old.taken.parts) result }
+    ensures answer { IsAnswerOf B.number B.parts T.parts (receipts_at named.entry.1 named.entry.0.now) (tally seat.old.begun.amount seat.old.taken.amount seat.old.begun.parts seat.old.taken.parts) result }
     ensures same { tally seat.new.begun.amount seat.new.taken.amount seat.new.begun.parts seat.new.taken.parts ≡ tally seat.old.begun.amount seat.old.taken.amount seat.old.begun.parts seat.old.taken.parts }
 {
     match receipts_at(alloc, named.0, named.1) {

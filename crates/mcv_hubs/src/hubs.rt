@@ -62,6 +62,7 @@ fn open<B: HubLedger, T: Ledger>(
     begun: Blank,
     taken: Blank,
 ) -> Result<(Hub<B, T>, Passes<B, T>), CoreFault>
+    requires number { hub ≡ B.number }
     requires begun { (begun.name ≡ B.name) × (begun.parts ≡ B.parts) × (begun.parts ≡ stock.now.capacity.seats + 1) }
     requires taken { (taken.name ≡ T.name) × (taken.parts ≡ T.parts) × (taken.parts ≡ stock.now.capacity.seats + 1) }
     requires opened { B.opened ≡ opened_view (arc_value stock.now.accepted.now) (records_at stock.now.choice.now hub stock.now.records.now) }
@@ -167,7 +168,7 @@ impl<F: HubNames, G: Names> Hubs<F, G> {
         asked: (Arc<Request>, usize),
     ) -> Result<CallId, CoreFault>
         requires { hub < 8 }
-        ensures event { WasBegun (arc_value asked.0) asked.1 result }
+        ensures event { WasBegun hub (arc_value asked.0) asked.1 result }
         ensures counted { seats.new ≡ change_at hub (begun_by result) seats.old }
     {
         match hub {
@@ -192,7 +193,7 @@ impl<F: HubNames, G: Names> Hubs<F, G> {
         seats: &mut Seats<F, G>,
         call: HubCall,
     ) -> Result<Option<TakenReply>, CoreFault>
-        ensures event { call.hub < 8 → WasTaken call.call result }
+        ensures event { call.hub < 8 → WasTaken call.hub call.call result }
         ensures unknown { 8 ≤ call.hub → result ≡ Err CoreFault.NoSuchCall }
         ensures counted { seats.new ≡ change_at call.hub (taken_by result) seats.old }
     {

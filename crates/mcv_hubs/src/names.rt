@@ -43,6 +43,8 @@ impl<F: Names, const HUB: usize> Ledger for At<F, HUB> {
 }
 
 impl<F: HubNames, const HUB: usize> HubLedger for At<F, HUB> {
+    ghost number = { HUB };
+
     ghost opened = { F.opened_of HUB };
 }
 

@@ -29,7 +29,7 @@ pub(crate) fn begin<B: HubLedger, T: Ledger, R: Wait + Clock>(
     seat: &mut Seat<B, T>,
     asked: (Arc<Request>, usize),
 ) -> Result<CallId, CoreFault>
-    ensures event { WasBegun (arc_value asked.0) asked.1 result }
+    ensures event { WasBegun B.number (arc_value asked.0) asked.1 result }
     ensures counted { tally seat.new.begun.amount seat.new.taken.amount seat.new.begun.parts seat.new.taken.parts ≡ begun_by result (tally seat.old.begun.amount seat.old.taken.amount seat.old.begun.parts seat.old.taken.parts) }
 {
     let (request, key) = asked;
@@ -39,6 +39,7 @@ pub(crate) fn begin<B: HubLedger, T: Ledger, R: Wait + Clock>(
     } else {
         (guard, Gate::Open)
     };
+    guard.is_numbered();
     let begun = guard.begin(alloc, seat, request, key);
     drop(guard);
     welcome(hub, gate);
@@ -54,10 +55,11 @@ pub(crate) fn take_reply<B: HubLedger, T: Ledger, R: Wait>(
     seat: &mut Seat<B, T>,
     call: CallId,
 ) -> Result<Option<TakenReply>, CoreFault>
-    ensures event { WasTaken call result }
+    ensures event { WasTaken B.number call result }
     ensures counted { tally seat.new.begun.amount seat.new.taken.amount seat.new.begun.parts seat.new.taken.parts ≡ taken_by result (tally seat.old.begun.amount seat.old.taken.amount seat.old.begun.parts seat.old.taken.parts) }
 {
     let mut guard = hub.lock(rt, pass);
+    guard.is_numbered();
     guard.deletes_are_kept();
     let taken = guard.take_reply(seat, call);
     let gate = guard.gate(alloc);
@@ -82,11 +84,12 @@ pub(crate) fn close<B: HubLedger, T: Ledger, R: Wait>(
     seat: &mut Seat<B, T>,
     receipts: &[Receipt],
 ) -> Result<Report, ReceiptFault>
-    ensures answer { IsAnswerOf B.parts T.parts receipts.now (tally seat.old.begun.amount seat.old.taken.amount seat.old.begun.parts seat.old.taken.parts) result }
+    ensures answer { IsAnswerOf B.number B.parts T.parts receipts.now (tally seat.old.begun.amount seat.old.taken.amount seat.old.begun.parts seat.old.taken.parts) result }
     ensures same { tally seat.new.begun.amount seat.new.taken.amount seat.new.begun.parts seat.new.taken.parts ≡ tally seat.old.begun.amount seat.old.taken.amount seat.old.begun.parts seat.old.taken.parts }
 {
     let Seat { begun, taken } = seat;
     let mut guard = hub.lock(rt, pass);
+    guard.is_numbered();
     guard.deletes_are_kept();
     guard.close(alloc, begun, taken, receipts)
 }

@@ -11,4 +11,4 @@ abbrev pub ghosts-large_values-T-Ledger : goal.ghosts-large_values-T-Ledger
 ghosts-large_values-T-Ledger g a = record { name = a.taken.name; parts = a.taken.parts }
 
 abbrev pub ghosts-large_values-B-HubLedger : goal.ghosts-large_values-B-HubLedger
-ghosts-large_values-B-HubLedger g a = record { opened = opened_view (arc_value a.accepted) [] }
+ghosts-large_values-B-HubLedger g a = record { number = 0; opened = opened_view (arc_value a.accepted) [] }

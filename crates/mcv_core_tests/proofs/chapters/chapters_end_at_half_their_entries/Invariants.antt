@@ -11,4 +11,4 @@ abbrev pub ghosts-three_chapters-T-Ledger : goal.ghosts-three_chapters-T-Ledger
 ghosts-three_chapters-T-Ledger g a = record { name = a.taken.name; parts = a.taken.parts }
 
 abbrev pub ghosts-three_chapters-B-HubLedger : goal.ghosts-three_chapters-B-HubLedger
-ghosts-three_chapters-B-HubLedger g a = record { opened = opened_view (arc_value a.accepted) [] }
+ghosts-three_chapters-B-HubLedger g a = record { number = 0; opened = opened_view (arc_value a.accepted) [] }

@@ -11,4 +11,4 @@ abbrev pub ghosts-heavy_chapter-T-Ledger : goal.ghosts-heavy_chapter-T-Ledger
 ghosts-heavy_chapter-T-Ledger g a = record { name = a.taken.name; parts = a.taken.parts }
 
 abbrev pub ghosts-heavy_chapter-B-HubLedger : goal.ghosts-heavy_chapter-B-HubLedger
-ghosts-heavy_chapter-B-HubLedger g a = record { opened = opened_view (arc_value a.accepted) [] }
+ghosts-heavy_chapter-B-HubLedger g a = record { number = 0; opened = opened_view (arc_value a.accepted) [] }

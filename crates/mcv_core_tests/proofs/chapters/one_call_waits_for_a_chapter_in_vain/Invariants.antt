@@ -11,4 +11,4 @@ abbrev pub ghosts-awaited_chapter-T-Ledger : goal.ghosts-awaited_chapter-T-Ledge
 ghosts-awaited_chapter-T-Ledger g a = record { name = a.taken.name; parts = a.taken.parts }
 
 abbrev pub ghosts-awaited_chapter-B-HubLedger : goal.ghosts-awaited_chapter-B-HubLedger
-ghosts-awaited_chapter-B-HubLedger g a = record { opened = opened_view (arc_value a.accepted) [] }
+ghosts-awaited_chapter-B-HubLedger g a = record { number = 0; opened = opened_view (arc_value a.accepted) [] }
