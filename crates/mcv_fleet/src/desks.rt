@@ -1,17 +1,21 @@
 //! The desk over all hubs: each key is asked at its hub.
 
-ghost use Rattle.std.specs.Prelude.{◌≡◌, ◌<◌, IfOk, length, vec_len};
+ghost use Rattle.std.specs.Prelude.{◌≡◌, ◌<◌, ◌≤◌, [], IfErr, IfOk, OnOk, length, vec_capacity, vec_len};
 ghost use Rattle.std.specs.Arc.{arc_value};
-ghost use Rattle.mcv_proxy.specs.Desk.{WasAsked};
+ghost use Rattle.mcv_fleet.specs.Desks.{AreBegunAt, AreForKeys, AsksHubs, IsKeyRefused};
+ghost use Rattle.mcv_fleet.specs.Room.{IsRoomFor};
+ghost use Rattle.mcv_proxy.specs.Desk.{IsReplyFor, IsUntaken, WasAsked, WasBegun, WasRefused};
 ghost use Rattle.mcv_session.specs.Desk.{HasOneEach, answer_value, keys_of};
 ghost use Rattle.mcv_text.specs.Request.{request_value};
 
-use crate::division::{filled, key_count, no_replies, one_hub, part_at, place};
+use crate::choice::one_hub;
 use crate::posts::Shared;
-use mcv_base::{Moment, Part, Request};
-use mcv_hub::{Pass, Receipt};
-use mcv_hubs::{At, HubChoice, HubNames, HubPasses, Names, Seats};
-use mcv_proxy::{HubDesk, Link, Watch};
+use crate::receipts::Receipts;
+use mcv_base::{CallId, Moment, Part, Request, key_words_have_one_reading};
+use mcv_core::CoreFault;
+use mcv_hub::{Pass, Receipt, TakenReply};
+use mcv_hubs::{At, HubCall, HubChoice, HubNames, HubPasses, Names, Seats};
+use mcv_proxy::{HubDesk, Link, Watch, fault_for, into_parts, key_count};
 use mcv_session::{Desk, DeskFault};
 use mcv_spool::Disk;
 use std::alloc::{AllocError, Global};
@@ -46,13 +50,14 @@ impl SessionPasses {
     }
 }
 
-/// Answers the requests of one session, each key at its hub. A request whose keys have several hubs asks these one after the
-/// other.
+/// Answers the requests of one session, each key at its hub.
 #[derive(Drop)]
 pub struct HubsDesk<'a, F: HubNames, G: Names, L: Link, W: Watch, R: Wait + Clock> {
     alloc: Global,
     choice: &'a HubChoice,
     watch: W,
+    /// The receipts of replies to requests whose keys had several hubs.
+    mixed: Receipts,
     desk0: HubDesk<'a, At<F, 0>, At<G, 0>, L, Moment, R>,
     desk1: HubDesk<'a, At<F, 1>, At<G, 1>, L, Moment, R>,
     desk2: HubDesk<'a, At<F, 2>, At<G, 2>, L, Moment, R>,
@@ -63,14 +68,44 @@ pub struct HubsDesk<'a, F: HubNames, G: Names, L: Link, W: Watch, R: Wait + Cloc
     desk7: HubDesk<'a, At<F, 7>, At<G, 7>, L, Moment, R>,
 }
 
-/// The receipts of two hubs. An error is that memory ran out.
+/// What the calls for the keys of one request are kept in.
+#[derive(Drop)]
+struct Room {
+    calls: Vec<HubCall>,
+    /// The reply that is taken just now.
+    one: Vec<TakenReply>,
+    taken: Vec<TakenReply>,
+    parts: Vec<Part>,
+}
+
+impl Room {
+    ghost use Rattle.mcv_fleet.specs.Room.{IsRoomFor};
+
+    /// Room for so many calls.
+    fn new(alloc: Global, count: usize) -> Result<Room, AllocError>
+        ensures { IfOk result (IsRoomFor count) }
+    {
+        let calls = Vec::with_capacity(alloc, count)?;
+        let one = Vec::with_capacity(alloc, 1)?;
+        let taken = Vec::with_capacity(alloc, count)?;
+        let parts = Vec::with_capacity(alloc, count)?;
+        Ok(Room {
+            calls,
+            one,
+            taken,
+            parts,
+        })
+    }
+}
+
+/// These receipts, and those of one more hub. An error is that memory ran out.
 fn joined(one: Vec<Receipt>, other: Vec<Receipt>) -> Result<Vec<Receipt>, AllocError> {
     let mut all = one;
     all.extend_from_slice(other.as_slice())?;
     Ok(all)
 }
 
-/// The receipts of one more hub.
+/// As `joined`, unless memory ran out before.
 fn with_more(
     all: Result<Vec<Receipt>, AllocError>,
     other: Vec<Receipt>,
@@ -113,6 +148,7 @@ impl<'a, F: HubNames, G: Names, L: Link, W: Watch, R: Wait + Clock> HubsDesk<'a,
             alloc,
             choice: &hubs.choice,
             watch,
+            mixed: Receipts::new(alloc),
             desk0: HubDesk::new(
                 rt,
                 alloc,
@@ -199,6 +235,7 @@ impl<'a, F: HubNames, G: Names, L: Link, W: Watch, R: Wait + Clock> HubsDesk<'a,
     /// The seats, and the receipts that were kept. An error is that there was no memory for all receipts.
     pub(crate) fn into_parts(self) -> (Seats<F, G>, Result<Vec<Receipt>, AllocError>) {
         let HubsDesk {
+            mixed,
             desk0,
             desk1,
             desk2,
@@ -227,7 +264,8 @@ impl<'a, F: HubNames, G: Names, L: Link, W: Watch, R: Wait + Clock> HubsDesk<'a,
             seat6,
             seat7,
         };
-        let receipts = joined(receipts0, receipts1);
+        let receipts = with_more(mixed.into_receipts(), receipts0);
+        let receipts = with_more(receipts, receipts1);
         let receipts = with_more(receipts, receipts2);
         let receipts = with_more(receipts, receipts3);
         let receipts = with_more(receipts, receipts4);
@@ -259,53 +297,168 @@ impl<'a, F: HubNames, G: Names, L: Link, W: Watch, R: Wait + Clock> HubsDesk<'a,
         }
     }
 
-    /// Asks the hub of this number for the keys that it has, and puts the replies to their places.
-    fn ask_part(
+    /// Begins a call for one key of a request at the hub of this number.
+    fn begin_at(
         &mut self,
         hub: usize,
         moment: Moment,
-        request: &Request,
-        places: &mut [Option<Part>],
-    ) -> Result<(), DeskFault>
+        request: &Arc<Request>,
+        key: usize,
+    ) -> Result<CallId, CoreFault>
         requires { hub < 8 }
+        ensures began { IfOk result (WasBegun (F.opened_of hub) (request_value (arc_value request.now)) key) }
+        ensures err { IfErr result (WasRefused (F.opened_of hub) (request_value (arc_value request.now)) key) }
     {
-        match part_at(self.alloc, self.choice, request, hub) {
-            Ok(Some(part)) => {
-                let replies = self.ask_at(hub, moment, &part.request)?;
-                place(places, part.keys.as_slice(), replies);
-                Ok(())
-            }
-            Ok(None) => Ok(()),
-            Err(_) => Err(DeskFault::Memory),
+        match hub {
+            0 => self.desk0.begin_for(moment, request, key),
+            1 => self.desk1.begin_for(moment, request, key),
+            2 => self.desk2.begin_for(moment, request, key),
+            3 => self.desk3.begin_for(moment, request, key),
+            4 => self.desk4.begin_for(moment, request, key),
+            5 => self.desk5.begin_for(moment, request, key),
+            6 => self.desk6.begin_for(moment, request, key),
+            _ => self.desk7.begin_for(moment, request, key),
         }
     }
 
-    /// Asks the hubs of the keys, one after the other.
-    fn ask_each(&mut self, moment: Moment, request: &Request) -> Result<Vec<Part>, DeskFault>
-        ensures { IfOk result (λ replies. vec_len replies ≡ length (keys_of (request_value request.now))) }
+    /// Takes the reply to a call that was begun for one key of a request, at its hub.
+    fn take_at(
+        &mut self,
+        request: &Request,
+        key: usize,
+        call: HubCall,
+        one: &mut Vec<TakenReply>,
+    ) -> Result<TakenReply, CoreFault>
+        requires there { call.hub < 8 }
+        requires empty { one.old.items ≡ [] }
+        requires room { 1 ≤ vec_capacity one.old }
+        ensures taken { IfOk result (IsReplyFor (F.opened_of call.hub) (request_value request.now) key) }
+        ensures err { IfErr result (IsUntaken (F.opened_of call.hub) (request_value request.now) key call.call) }
+        ensures empty { one.new.items ≡ [] }
+        ensures room { vec_capacity one.new ≡ vec_capacity one.old }
     {
-        let Ok(mut places) = no_replies(self.alloc, key_count(request)) else {
+        let number = call.call;
+        match call.hub {
+            0 => self.desk0.take_for(request, key, number, one),
+            1 => self.desk1.take_for(request, key, number, one),
+            2 => self.desk2.take_for(request, key, number, one),
+            3 => self.desk3.take_for(request, key, number, one),
+            4 => self.desk4.take_for(request, key, number, one),
+            5 => self.desk5.take_for(request, key, number, one),
+            6 => self.desk6.take_for(request, key, number, one),
+            _ => self.desk7.take_for(request, key, number, one),
+        }
+    }
+
+    /// Begins a call for each key of a request at its hub, in the order of the keys, up to the first that is refused.
+    fn begin_each(
+        &mut self,
+        moment: Moment,
+        request: &Arc<Request>,
+        calls: &mut Vec<HubCall>,
+    ) -> Result<(), CoreFault>
+        requires empty { calls.old.items ≡ [] }
+        requires room { length (keys_of (request_value (arc_value request.now))) ≤ vec_capacity calls.old }
+        ensures began { AreBegunAt F.opened_of self.old.choice.now (arc_value request.now) calls.new.items }
+        ensures all { OnOk result (vec_len calls.new ≡ length (keys_of (request_value (arc_value request.now)))) }
+        ensures most { vec_len calls.new ≤ length (keys_of (request_value (arc_value request.now))) }
+        ensures err { IfErr result (IsKeyRefused F.opened_of self.old.choice.now (arc_value request.now)) }
+    {
+        let choice = self.choice;
+        let words: &Request = request;
+        for key in 0..key_count(words) {
+            let hub = choice.hub_of_key(words, key);
+            match self.begin_at(hub, moment, request, key) {
+                Ok(call) => calls.push_reserved(HubCall { hub, call }),
+                Err(fault) => return Err(fault),
+            }
+        }
+        Ok(())
+    }
+
+    /// Takes the replies to the calls for the first keys of a request, in their order. Where one isn't there the others are taken
+    /// too.
+    fn take_each(
+        &mut self,
+        request: &Request,
+        calls: &[HubCall],
+        one: &mut Vec<TakenReply>,
+        taken: &mut Vec<TakenReply>,
+    ) -> Result<(), CoreFault>
+        requires began { AreBegunAt F.opened_of self.old.choice.now request.now calls.now }
+        requires empty { one.old.items ≡ [] }
+        requires room { 1 ≤ vec_capacity one.old }
+        requires none { taken.old.items ≡ [] }
+        requires places { length calls.now ≤ vec_capacity taken.old }
+        ensures taken { OnOk result (AreForKeys F.opened_of self.old.choice.now (request_value request.now) taken.new.items) }
+        ensures all { OnOk result (vec_len taken.new ≡ length calls.now) }
+        ensures err { IfErr result (IsKeyRefused F.opened_of self.old.choice.now request.now) }
+        ensures places { vec_capacity taken.new ≡ vec_capacity taken.old }
+    {
+        key_words_have_one_reading();
+        let _hubs = self.choice.hubs();
+        let mut missed = None;
+        for key in 0..calls.len() {
+            match self.take_at(request, key, calls[key], one) {
+                Ok(reply) => taken.push_reserved(reply),
+                Err(fault) => missed = Some(fault),
+            }
+        }
+        match missed {
+            Some(fault) => Err(fault),
+            None => Ok(()),
+        }
+    }
+
+    /// A reply for each key of a request, in the order of the keys; all calls are begun before the first reply is waited for.
+    /// Their receipts are kept.
+    fn take_replies(
+        &mut self,
+        moment: Moment,
+        request: &Arc<Request>,
+        room: &mut Room,
+    ) -> Result<(), CoreFault>
+        requires room { IsRoomFor (length (keys_of (request_value (arc_value request.now)))) room.old }
+        ensures taken { OnOk result (AreForKeys F.opened_of self.old.choice.now (request_value (arc_value request.now)) room.new.taken.items) }
+        ensures all { OnOk result (vec_len room.new.taken ≡ length (keys_of (request_value (arc_value request.now)))) }
+        ensures parts { (room.new.parts.items ≡ room.old.parts.items) × (vec_capacity room.new.parts ≡ vec_capacity room.old.parts) }
+        ensures err { IfErr result (IsKeyRefused F.opened_of self.old.choice.now (arc_value request.now)) }
+    {
+        let Room {
+            calls, one, taken, ..
+        } = room;
+        let begun = self.begin_each(moment, request, calls);
+        let outcome = self.take_each(request, calls.as_slice(), one, taken);
+        self.mixed.keep_those_of(taken.as_slice());
+        outcome?;
+        begun
+    }
+
+    /// Asks the hubs of the keys: a call for each key is begun at its hub, in the order of the keys, and the replies are taken in
+    /// that order.
+    fn ask_each(
+        &mut self,
+        moment: Moment,
+        request: &Arc<Request>,
+    ) -> Result<Vec<Part>, DeskFault>
+        ensures asks { AsksHubs F.opened_of self.old.choice.now (request_value (arc_value request.now)) (answer_value result) }
+        ensures each { HasOneEach (request_value (arc_value request.now)) (answer_value result) }
+    {
+        let Ok(mut room) = Room::new(self.alloc, key_count(request)) else {
             return Err(DeskFault::Memory);
         };
-        for hub in 0..self.choice.hubs() {
-            self.ask_part(hub, moment, request, places.as_mut_slice())?;
-        }
-        match filled(self.alloc, places) {
-            Ok(Some(replies)) => Ok(replies),
-            Ok(None) => Err(DeskFault::Busy),
-            Err(_) => Err(DeskFault::Memory),
+        match self.take_replies(moment, request, &mut room) {
+            Ok(()) => Ok(into_parts(room.taken, room.parts)),
+            Err(fault) => Err(fault_for(fault)),
         }
     }
 }
 
 impl<'a, F: HubNames, G: Names, L: Link, W: Watch, R: Wait + Clock> Desk
     for HubsDesk<'a, F, G, L, W, R> {
-    ghost use Rattle.std.specs.Prelude.{◌≡◌, length};
     ghost use Rattle.mcv_fleet.specs.Desks.{AsksHubs};
-    ghost use Rattle.mcv_session.specs.Desk.{keys_of};
 
-    // Of a request with several keys nothing is said.
-    ghost asks = { λ old request answer new. length (keys_of request) ≡ 1 → AsksHubs F.opened_of old.choice.now request answer };
+    ghost asks = { λ old request answer new. AsksHubs F.opened_of old.choice.now request answer };
 
     fn ask(&mut self, request: &Arc<Request>) -> Result<Vec<Part>, DeskFault> {
         let moment = self.watch.moment();

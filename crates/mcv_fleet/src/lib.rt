@@ -4,10 +4,11 @@
 
 mod crew;
 mod desks;
-mod division;
+mod choice;
 mod fleet;
 mod host;
 mod posts;
+mod receipts;
 mod running;
 mod threads;
 

@@ -3,9 +3,10 @@
 ghost use Rattle.std.specs.Prelude.{◌≡◌, Some, IfOk, OnOk};
 ghost use Rattle.slab.specs.Slab.{HasRoomFor, Updates};
 
+use crate::receipts::Receipts;
 use crossbeam_channel::Receiver;
 use mcv_hub::Receipt;
-use mcv_hubs::{MOST_HUBS, Names, Seats};
+use mcv_hubs::{Names, Seats};
 use mcv_proxy::ProxyFault;
 use slab::Slab;
 use std::alloc::{AllocError, Global};
@@ -25,11 +26,7 @@ pub(crate) struct Done<F: Names, G: Names> {
 struct Returned<F: Names, G: Names> {
     /// Their shares, added up.
     seats: Seats<F, G>,
-    /// Their receipts, without those of earlier chapters than the newest of their hub of which one had any.
-    receipts: Vec<Receipt>,
-    newest: Newest,
-    /// There was no memory for some receipts.
-    is_short: bool,
+    receipts: Receipts,
 }
 
 /// The sessions that run or weren't joined yet, by their numbers, and what those handed back that were.
@@ -41,55 +38,14 @@ pub(crate) struct Running<F: Names, G: Names> {
     returned: Returned<F, G>,
 }
 
-/// The newest chapter of each hub of which a session had receipts.
-#[derive(Drop)]
-struct Newest {
-    chapters: [u64; MOST_HUBS],
-}
-
-impl Newest {
-    /// The chapters of these receipts count.
-    fn note(&mut self, receipts: &[Receipt]) {
-        for receipt in receipts {
-            if let Some(chapter) = self.chapters.get_mut(receipt.hub) {
-                *chapter = receipt.chapter.max(*chapter);
-            }
-        }
-    }
-
-    /// Whether a receipt can still be looked up. One that names no hub is kept, so that the close refuses it.
-    fn has(&self, receipt: &Receipt) -> bool {
-        match self.chapters.get(receipt.hub) {
-            Some(chapter) => receipt.chapter >= *chapter,
-            None => true,
-        }
-    }
-}
-
 impl<F: Names, G: Names> Returned<F, G> {
-    /// Keeps receipts but those of chapters before the newest of their hub, which can't be looked up any more.
-    fn keep(&mut self, receipts: &[Receipt]) -> Result<(), AllocError> {
-        self.newest.note(receipts);
-        let newest = &self.newest;
-        self.receipts.retain(|receipt| newest.has(receipt));
-        for receipt in receipts {
-            if newest.has(receipt) {
-                self.receipts.push(*receipt)?;
-            }
-        }
-        Ok(())
-    }
-
     /// Takes over what a session handed back.
     fn take_back(&mut self, done: Done<F, G>) {
         let Done { seats, receipts } = done;
         self.seats.merge(seats);
-        let kept = match receipts {
-            Ok(receipts) => self.keep(receipts.as_slice()),
-            Err(fault) => Err(fault),
-        };
-        if kept.is_err() {
-            self.is_short = true;
+        match receipts {
+            Ok(receipts) => self.receipts.keep_all(receipts.as_slice()),
+            Err(_) => self.receipts.note_short(),
         }
     }
 }
@@ -102,11 +58,7 @@ impl<F: Names + Send, G: Names + Send> Running<F, G> {
             ended,
             returned: Returned {
                 seats,
-                receipts: Vec::new(alloc),
-                newest: Newest {
-                    chapters: [0; MOST_HUBS],
-                },
-                is_short: false,
+                receipts: Receipts::new(alloc),
             },
         }
     }
@@ -151,18 +103,13 @@ impl<F: Names + Send, G: Names + Send> Running<F, G> {
         for session in sessions.drain() {
             returned.take_back(session.join(rt));
         }
-        let Returned {
-            seats,
-            receipts,
-            is_short,
-            ..
-        } = returned;
-        if is_short {
-            return Err(ProxyFault::Memory);
+        let Returned { seats, receipts } = returned;
+        match receipts.into_receipts() {
+            Ok(receipts) => Ok(Done {
+                seats,
+                receipts: Ok(receipts),
+            }),
+            Err(_) => Err(ProxyFault::Memory),
         }
-        Ok(Done {
-            seats,
-            receipts: Ok(receipts),
-        })
     }
 }

@@ -136,6 +136,24 @@ pub record IsFor (r : RoutesValue) (request : RequestValue) (key : ℕ) (t : Tak
 abbrev pub AreFor : RoutesValue → RequestValue → List TakenReply → Type 0
 AreFor r request taken = (key : ℕ) (t : TakenReply) → slice_get taken key ≡ Some t → IsFor r request key t
 
+-- ---- one key
+
+-- the reply was taken of the hub, and is for the key of this number
+pub record IsReplyFor (opened : CoreView) (request : RequestValue) (key : ℕ) (t : TakenReply) : Type 0 where
+  pub taken : WasTaken opened t
+  pub for_key : IsFor opened.routes request key t
+
+-- a reply of the hub is for another key than that of this number, or for none
+pub record IsForAnother (opened : CoreView) (request : RequestValue) (key : ℕ) : Type 0 where
+  pub reply : TakenReply
+  pub taken : WasTaken opened reply
+  pub other : IsFor opened.routes request key reply → ⊥
+
+-- why a call has no reply for the key of this number: it didn't run when the reply was to be taken, or the reply is for another key
+pub record IsUntaken (opened : CoreView) (request : RequestValue) (key : ℕ) (call : CallId) (fault : CoreFault) : Type 0 where
+  pub is : fault ≡ NoSuchCall
+  pub why : WasMissing opened call ⊎ IsForAnother opened request key
+
 -- ---- answers
 
 -- the request is answered by these replies, one for each key, in the order of the keys

@@ -1,18 +1,17 @@
 //! The desk over a hub: a request's keys are calls of the hub.
 
-ghost use Rattle.std.specs.Prelude.{◌≡◌, ◌↔◌, ◌+◌, ◌<◌, ◌≤◌, [], fold, length, map, nat_le, option_map, vec_len, vec_capacity, true, IfErr, IfNone, IfOk, IfSome, OnErr, OnOk};
+ghost use Rattle.std.specs.Prelude.{◌≡◌, ◌↔◌, ◌+◌, ◌<◌, ◌≤◌, [], ◌∷◌, fold, length, map, nat_le, option_map, vec_len, vec_capacity, true, IfErr, IfNone, IfOk, IfSome, OnErr, OnOk};
 ghost use Rattle.std.specs.Arc.{arc_value};
-ghost use Rattle.std.specs.Coded.{Coded-set};
-ghost use Rattle.mcv_route.specs.Codes.{routes_code};
 ghost use Rattle.std.specs.List.{All, filter};
 ghost use Rattle.mcv_text.specs.Request.{request_value};
 ghost use Rattle.mcv_session.specs.Desk.{keys_of};
-ghost use Rattle.mcv_proxy.specs.Desk.{AreBegun, AreFor, AreTaken, Asks, HasMissing, IsFor, IsRouted, IsUnanswered, IsUnrouted, WasAsked, WasBegun, WasMissing, WasRefused, WasTaken, desk_fault, with_receipt, word_at};
+ghost use Rattle.mcv_proxy.specs.Desk.{AreBegun, AreFor, AreTaken, Asks, HasMissing, IsFor, IsReplyFor, IsRouted, IsUnanswered, IsUnrouted, IsUntaken, WasAsked, WasBegun, WasMissing, WasRefused, WasTaken, desk_fault, with_receipt, word_at};
 
 use crate::agenda::Agenda;
 use crate::errands::Errands;
 use crate::events;
 use crate::gates::{Link, Watch};
+use crate::hub_routes::HubRoutes;
 use crate::lanes::{Lanes, Links};
 use mcv_base::{CallId, Moment, Op, Part, Request, Rest, key_words_have_one_reading, split_key};
 use mcv_core::CoreFault;
@@ -55,9 +54,7 @@ struct Progress {
 pub struct HubDesk<'a, B: HubLedger, T: Ledger, L: Link, W: Watch, R: Wait + Clock> {
     caller: Caller<'a, B, T, L, W, R>,
     kept: Kept,
-    /// The hub's. They aren't asked of the hub at each request: what lies beside its lock is slow to read while others take it.
-    routes: &'a Routes,
-    ghost its: { routes.now ≡ B.opened.routes } by { Coded-set routes_code routes.now B.opened.routes },
+    routes: HubRoutes<'a, B>,
 }
 
 /// The receipts of replies that were taken, without those of earlier chapters than that of the last one.
@@ -105,7 +102,7 @@ impl Room {
 }
 
 /// What a client is answered where the core refuses a call.
-fn fault_for(fault: CoreFault) -> DeskFault
+pub fn fault_for(fault: CoreFault) -> DeskFault
     ensures { result ≡ desk_fault fault }
 {
     match fault {
@@ -123,7 +120,7 @@ fn fault_for(fault: CoreFault) -> DeskFault
 }
 
 /// How many keys a request has.
-fn key_count(request: &Request) -> usize
+pub fn key_count(request: &Request) -> usize
     ensures { result ≡ length (keys_of (request_value request.now)) }
 {
     match request {
@@ -414,7 +411,7 @@ impl Kept {
 }
 
 /// The replies as a client gets them.
-fn into_parts(taken: Vec<TakenReply>, parts: Vec<Part>) -> Vec<Part>
+pub fn into_parts(taken: Vec<TakenReply>, parts: Vec<Part>) -> Vec<Part>
     requires empty { parts.items ≡ [] }
     requires room { vec_len taken ≤ vec_capacity parts }
     ensures { result.items ≡ map (λ t. t.reply) taken.items }
@@ -463,6 +460,32 @@ impl<'a, B: HubLedger, T: Ledger, L: Link, W: Watch, R: Wait + Clock> Caller<'a,
         );
         self.errands
             .set_off(rt, alloc, lanes, &mut guard, calls.as_slice(), None);
+        begun
+    }
+
+    /// Begins a call for one key of a request at this moment, and leaves its legs to the workers of their servers.
+    fn begin_one(
+        &mut self,
+        moment: Moment,
+        request: &Arc<Request>,
+        key: usize,
+    ) -> Result<CallId, CoreFault>
+        ensures began { IfOk result (WasBegun B.opened (request_value (arc_value request.now)) key) }
+        ensures err { IfErr result (WasRefused B.opened (request_value (arc_value request.now)) key) }
+        ensures begun { OnOk result (self.new.seat.begun.amount ≡ self.old.seat.begun.amount + 1) }
+        ensures unbegun { OnErr result (self.new.seat.begun.amount ≡ self.old.seat.begun.amount) }
+        ensures taken { self.new.seat.taken.amount ≡ self.old.seat.taken.amount }
+    {
+        let (rt, alloc, hub) = (self.rt, self.alloc, self.hub);
+        let mut guard = hub.lock(rt, &mut self.pass);
+        // A moment before the hub's leaves its era as it is.
+        let _ = guard.clock(moment);
+        let seat = &mut self.seat;
+        let agenda = &mut self.errands.agenda;
+        let (guard, begun) = begin_in_chapter(rt, alloc, hub, guard, seat, agenda, request, key);
+        self.errands.agenda.leave(guard.core());
+        drop(guard);
+        self.errands.agenda.finish();
         begun
     }
 
@@ -525,6 +548,17 @@ impl<'a, B: HubLedger, T: Ledger, L: Link, W: Watch, R: Wait + Clock> Caller<'a,
     }
 }
 
+/// The reply in a list of one at most, which is empty then.
+fn taken_out(one: &mut Vec<TakenReply>) -> Option<TakenReply>
+    requires { vec_len one.old ≤ 1 }
+    ensures some { IfSome result (λ reply. one.old.items ≡ reply ∷ []) }
+    ensures none { IfNone result (one.old.items ≡ []) }
+    ensures empty { one.new.items ≡ [] }
+    ensures room { vec_capacity one.new ≡ vec_capacity one.old }
+{
+    one.pop()
+}
+
 impl<'a, B: HubLedger, T: Ledger, L: Link, W: Watch, R: Wait + Clock> HubDesk<'a, B, T, L, W, R> {
     /// A desk over a hub that has answered nothing.
     pub fn new(
@@ -553,7 +587,7 @@ impl<'a, B: HubLedger, T: Ledger, L: Link, W: Watch, R: Wait + Clock> HubDesk<'a
                 errands: Errands::new(alloc, hub),
             },
             kept: Kept::new(alloc),
-            routes: hub.routes(),
+            routes: HubRoutes::of(hub),
         }
     }
 
@@ -591,7 +625,7 @@ impl<'a, B: HubLedger, T: Ledger, L: Link, W: Watch, R: Wait + Clock> HubDesk<'a
         ensures err { IfErr result (IsUnanswered B.opened (request_value (arc_value request.now)) calls.new.items taken.new.items) }
     {
         let count = key_count(request);
-        let routes = self.routes;
+        let routes = self.routes.get();
         let begun = self.caller.begin_all(request, count, calls);
         let outcome = self.caller.take_all(calls.as_slice(), taken);
         self.kept.keep_all(taken.as_slice());
@@ -650,5 +684,51 @@ impl<'a, B: HubLedger, T: Ledger, L: Link, R: Wait + Clock> HubDesk<'a, B, T, L,
     {
         self.caller.watch = moment;
         self.ask(request)
+    }
+
+    /// Begins a call for one key of a request, counted from 0, at this moment. Its reply is to be taken by `take_for`, or the
+    /// hub's chapter never ends.
+    pub fn begin_for(
+        &mut self,
+        moment: Moment,
+        request: &Arc<Request>,
+        key: usize,
+    ) -> Result<CallId, CoreFault>
+        ensures began { IfOk result (WasBegun B.opened (request_value (arc_value request.now)) key) }
+        ensures err { IfErr result (WasRefused B.opened (request_value (arc_value request.now)) key) }
+    {
+        self.caller.begin_one(moment, request, key)
+    }
+
+    /// Takes the reply to a call that was begun for one key of a request, once it is there; its receipt isn't kept. The list is
+    /// empty before and after. An error is NoSuchCall, where the call doesn't run, or the reply is for another key.
+    pub fn take_for(
+        &mut self,
+        request: &Request,
+        key: usize,
+        call: CallId,
+        one: &mut Vec<TakenReply>,
+    ) -> Result<TakenReply, CoreFault>
+        requires empty { one.old.items ≡ [] }
+        requires room { 1 ≤ vec_capacity one.old }
+        ensures reply { IfOk result (IsReplyFor B.opened (request_value request.now) key) }
+        ensures of_call { IfOk result (λ reply. reply.receipt.call ≡ call) }
+        ensures err { IfErr result (IsUntaken B.opened (request_value request.now) key call) }
+        ensures empty { one.new.items ≡ [] }
+        ensures room { vec_capacity one.new ≡ vec_capacity one.old }
+    {
+        let outcome = self.caller.take_all(&[call], one);
+        let reply = taken_out(one);
+        outcome?;
+        match reply {
+            Some(reply) => {
+                if is_for(self.routes.get(), request, key, &reply) {
+                    Ok(reply)
+                } else {
+                    Err(CoreFault::NoSuchCall)
+                }
+            }
+            None => unreachable!(),
+        }
     }
 }

@@ -16,13 +16,14 @@ mod errands;
 mod events;
 mod fault;
 mod gates;
+mod hub_routes;
 mod landing;
 mod lanes;
 mod replay;
 mod seen;
 mod spooling;
 
-pub use crate::desk::HubDesk;
+pub use crate::desk::{HubDesk, fault_for, into_parts, key_count};
 pub use crate::destination::serve_destination;
 pub use crate::ends::Ends;
 pub use crate::fault::ProxyFault;

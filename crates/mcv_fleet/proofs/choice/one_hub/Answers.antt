@@ -1,6 +1,6 @@
 use Rattle.std.proofs.Common.{arith}
 use Rattle.mcv_fleet.proofs.KeysOfHubs.{all_have_hub}
-use Rattle.mcv_fleet.proofs.division.one_hub.Goals as goal
+use Rattle.mcv_fleet.proofs.choice.one_hub.Goals as goal
 
 pub returns-clause-some : goal.returns-clause-some
 returns-clause-some c =

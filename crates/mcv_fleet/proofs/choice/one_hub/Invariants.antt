@@ -1,6 +1,6 @@
 use Rattle.std.proofs.Common.{◌<◌, ℕ}
 use Rattle.mcv_hubs.specs.Choice.{IsHubOf}
-use Rattle.mcv_fleet.proofs.division.one_hub.Given as goal
+use Rattle.mcv_fleet.proofs.choice.one_hub.Given as goal
 
 -- the keys so far have the hub of the first
 abbrev pub invariant-loop-key : goal.invariant-loop-key
