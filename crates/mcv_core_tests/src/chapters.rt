@@ -118,7 +118,7 @@ fn three_chapters<B: HubLedger, T: Ledger>(
     let (receipts, turned) = get_each(rt, &mut guard, &mut seat, 300_000, &body);
     assert_eq!(rt; turned.as_slice(), [100_000, 200_000, 300_000].as_slice());
     let receipts = receipts.as_slice();
-    let found = guard.close(rt.alloc(), &mut seat.begun, &mut seat.taken, receipts);
+    let found = guard.close(rt.alloc(), &mut seat, receipts);
     let report = Report {
         begun: 300_000,
         taken: 300_000,

@@ -123,7 +123,7 @@ fn check_close<B: HubLedger, T: Ledger>(
     receipts: &[Receipt],
     wanted: Result<Report, ReceiptFault>,
 ) {
-    let found = guard.close(rt.alloc(), &mut seat.begun, &mut seat.taken, receipts);
+    let found = guard.close(rt.alloc(), seat, receipts);
     assert!(rt; found == wanted, "{found:?}, not {wanted:?}");
 }
 

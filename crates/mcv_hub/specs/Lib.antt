@@ -5,3 +5,4 @@ pub mod Receipts
 pub mod Events
 pub mod Weights
 pub mod Gate
+pub mod Seats

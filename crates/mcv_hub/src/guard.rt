@@ -26,7 +26,7 @@ use mcv_spool::Stored;
 use std::alloc::Global;
 use std::marker::{Model, PhantomData};
 use std::rt::Clock;
-use std::sync::ledger::{Ledger, Share};
+use std::sync::ledger::Ledger;
 use std::sync::{Arc, Condvar, CondvarTimeouts, MutexGuard, Wait};
 use std::time::Duration;
 
@@ -236,20 +236,19 @@ impl<'a, B: HubLedger, T: Ledger> Guard<'a, B, T> {
     pub fn close(
         &mut self,
         alloc: Global,
-        begun: &mut Share<B>,
-        taken: &mut Share<T>,
+        seat: &mut Seat<B, T>,
         receipts: &[Receipt],
     ) -> Result<Report, ReceiptFault>
         ensures begun { IfOk result (λ p. p.begun ≡ self.old.begun) }
         ensures taken { IfOk result (λ p. p.taken ≡ self.old.taken) }
-        ensures all_begun { begun.old.parts ≡ B.parts → self.old.begun ≡ begun.old.amount }
-        ensures all_taken { taken.old.parts ≡ T.parts → self.old.taken ≡ taken.old.amount }
+        ensures all_begun { seat.old.begun.parts ≡ B.parts → self.old.begun ≡ seat.old.begun.amount }
+        ensures all_taken { seat.old.taken.parts ≡ T.parts → self.old.taken ≡ seat.old.taken.amount }
         ensures passed { IfOk result (λ p. ArePassed self.old.hub self.old.chapter self.old.history receipts.now p.older) }
         ensures err { IfErr result (AreRefused self.old.hub self.old.chapter self.old.history receipts.now) }
-        ensures shares { (begun.new.amount ≡ begun.old.amount) × (taken.new.amount ≡ taken.old.amount) × (begun.new.parts ≡ begun.old.parts) × (taken.new.parts ≡ taken.old.parts) }
+        ensures shares { (seat.new.begun.amount ≡ seat.old.begun.amount) × (seat.new.taken.amount ≡ seat.old.taken.amount) × (seat.new.begun.parts ≡ seat.old.begun.parts) × (seat.new.taken.parts ≡ seat.old.taken.parts) }
         ensures same { IsSame self.old self.new }
     {
-        self.state.close(alloc, begun, taken, receipts)
+        self.state.close(alloc, seat, receipts)
     }
 
     /// The entries of the chapter, the oldest first. Each book is what it was when the chapter began, and one for each

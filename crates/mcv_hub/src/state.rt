@@ -464,22 +464,21 @@ impl<B: HubLedger, T: Ledger> HubState<B, T> {
     pub(crate) fn close(
         &mut self,
         alloc: Global,
-        begun: &mut Share<B>,
-        taken: &mut Share<T>,
+        seat: &mut Seat<B, T>,
         receipts: &[Receipt],
     ) -> Result<Report, ReceiptFault>
         ensures begun { IfOk result (λ p. p.begun ≡ self.old.begun) }
         ensures taken { IfOk result (λ p. p.taken ≡ self.old.taken) }
-        ensures all_begun { begun.old.parts ≡ B.parts → self.old.begun ≡ begun.old.amount }
-        ensures all_taken { taken.old.parts ≡ T.parts → self.old.taken ≡ taken.old.amount }
+        ensures all_begun { seat.old.begun.parts ≡ B.parts → self.old.begun ≡ seat.old.begun.amount }
+        ensures all_taken { seat.old.taken.parts ≡ T.parts → self.old.taken ≡ seat.old.taken.amount }
         ensures passed { IfOk result (λ p. ArePassed self.old.hub self.old.chapter self.old.history receipts.now p.older) }
         ensures err { IfErr result (AreRefused self.old.hub self.old.chapter self.old.history receipts.now) }
-        ensures shares { (begun.new.amount ≡ begun.old.amount) × (taken.new.amount ≡ taken.old.amount) × (begun.new.parts ≡ begun.old.parts) × (taken.new.parts ≡ taken.old.parts) }
+        ensures shares { (seat.new.begun.amount ≡ seat.old.begun.amount) × (seat.new.taken.amount ≡ seat.old.taken.amount) × (seat.new.begun.parts ≡ seat.old.begun.parts) × (seat.new.taken.parts ≡ seat.old.taken.parts) }
         ensures same { IsSame self.old self.new }
     {
         let (all_begun, all_taken) = self.totals();
-        self.begun.audit(begun);
-        self.taken.audit(taken);
+        self.begun.audit(&mut seat.begun);
+        self.taken.audit(&mut seat.taken);
         let history = self.history.as_slice();
         let older = count_older(alloc, history, self.hub, self.chapter, receipts)?;
         Ok(Report {

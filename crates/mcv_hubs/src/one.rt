@@ -87,9 +87,8 @@ pub(crate) fn close<B: HubLedger, T: Ledger, R: Wait>(
     ensures answer { IsAnswerOf B.number B.parts T.parts receipts.now (tally seat.old.begun.amount seat.old.taken.amount seat.old.begun.parts seat.old.taken.parts) result }
     ensures same { tally seat.new.begun.amount seat.new.taken.amount seat.new.begun.parts seat.new.taken.parts ≡ tally seat.old.begun.amount seat.old.taken.amount seat.old.begun.parts seat.old.taken.parts }
 {
-    let Seat { begun, taken } = seat;
     let mut guard = hub.lock(rt, pass);
     guard.is_numbered();
     guard.deletes_are_kept();
-    guard.close(alloc, begun, taken, receipts)
+    guard.close(alloc, seat, receipts)
 }

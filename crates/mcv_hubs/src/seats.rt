@@ -60,8 +60,7 @@ impl<F: Names, G: Names> Seats<F, G> {
 fn merge<B: Ledger, T: Ledger>(all: &mut Seat<B, T>, one: Seat<B, T>)
     ensures { tally all.new.begun.amount all.new.taken.amount all.new.begun.parts all.new.taken.parts ≡ plus (tally all.old.begun.amount all.old.taken.amount all.old.begun.parts all.old.taken.parts) (tally one.begun.amount one.taken.amount one.begun.parts one.taken.parts) }
 {
-    all.begun.merge(one.begun);
-    all.taken.merge(one.taken);
+    all.merge(one);
 }
 
 /// Makes the passes of workers and sessions, and the seats of sessions at all hubs. Clauses see how many sessions there are
