@@ -36,7 +36,7 @@ use Rattle.mcv_core.specs.declared.launch.Entry.{Entry}
 -- so many legs more fit: at most 65,536 are queued or reserved, and numbers are below 2^64
 pub record LegsFit (v : CoreView) (count : ℕ) : Type 0 where
   pub limit : queued_legs v.rows + reserved v.routes v.rows + count ≤ 65536
-  pub calls : v.rows.next_call + 1 < 2 ^ 64
+  pub calls : v.rows.next_call < 2 ^ 64
   pub legs : v.rows.next_leg + reserved v.routes v.rows + count < 2 ^ 64
 
 -- how many entries of the history a call may write that can launch so many legs: two of its own, and three for each leg
@@ -128,7 +128,7 @@ pub record IsNewCall (number : ℕ) (since : Option Moment) (asked : Asked) (sta
 -- what the code counts says that so many legs more fit
 pub record HasLegRoom (d : Dispatcher) (count : ℕ) : Type 0 where
   pub legs : d.counts.queued + d.counts.reserved + count ≤ 65536
-  pub call_numbers : d.next_call + 1 < 2 ^ 64
+  pub call_numbers : d.next_call < 2 ^ 64
   pub leg_numbers : d.next_leg + d.counts.reserved + count < 2 ^ 64
 
 -- and so many entries of the history
