@@ -425,7 +425,10 @@ impl<'a, F: HubNames, G: Names, L: Link, W: Watch, R: Wait + Clock> HubsDesk<'a,
         ensures err { IfErr result (IsKeyRefused F.opened_of self.old.choice.now (arc_value request.now)) }
     {
         let Room {
-            calls, one, taken, ..
+            calls,
+            one,
+            taken,
+            ..
         } = room;
         let begun = self.begin_each(moment, request, calls);
         let outcome = self.take_each(request, calls.as_slice(), one, taken);
@@ -436,11 +439,7 @@ impl<'a, F: HubNames, G: Names, L: Link, W: Watch, R: Wait + Clock> HubsDesk<'a,
 
     /// Asks the hubs of the keys: a call for each key is begun at its hub, in the order of the keys, and the replies are taken in
     /// that order.
-    fn ask_each(
-        &mut self,
-        moment: Moment,
-        request: &Arc<Request>,
-    ) -> Result<Vec<Part>, DeskFault>
+    fn ask_each(&mut self, moment: Moment, request: &Arc<Request>) -> Result<Vec<Part>, DeskFault>
         ensures asks { AsksHubs F.opened_of self.old.choice.now (request_value (arc_value request.now)) (answer_value result) }
         ensures each { HasOneEach (request_value (arc_value request.now)) (answer_value result) }
     {

@@ -2,9 +2,9 @@
 //! for each server, one for the spool and a replayer, and each client a session, each in a thread of its own.
 #![tactic(auto)]
 
+mod choice;
 mod crew;
 mod desks;
-mod choice;
 mod fleet;
 mod host;
 mod posts;

@@ -38,9 +38,11 @@ returns-in_default-clause-event g c =
 pub invariant_of-self-in_err-call : goal.invariant_of-self-in_err-call
 invariant_of-self-in_err-call g c =
     let s = c.self.inside in
-    let h = c.in_err-call.ensures.begun in
-    (refused_holds (core_view s.core.dispatcher) (core_view c.begin.new.self.dispatcher) s.history.entries.items s.chapter s.begun.total s.taken.total s.begun_before s.taken_before (vec_len s.history.entries) (vec_capacity s.history.entries) s.places s.breaks c.self.invariant.0
-    h.event.same c.make_room.new.history.entries.items (vec_len c.make_room.new.history.entries) (vec_capacity c.make_room.new.history.entries) c.make_room.ensures.items c.make_room.ensures.len c.make_room.ensures.grown, c.self.invariant.1)
+    let h = c.in_err-call.ensures.begun in (
+      refused_holds (core_view s.core.dispatcher) (core_view c.begin.new.self.dispatcher) s.history.entries.items s.chapter s.begun.total s.taken.total s.begun_before s.taken_before (vec_len s.history.entries) (vec_capacity s.history.entries) s.places s.breaks c.self.invariant.0
+          h.event.same c.make_room.new.history.entries.items (vec_len c.make_room.new.history.entries) (vec_capacity c.make_room.new.history.entries) c.make_room.ensures.items c.make_room.ensures.len c.make_room.ensures.grown,
+      c.self.invariant.1,
+    )
 
 pub returns-in_err-call-clause-event : goal.returns-in_err-call-clause-event
 returns-in_err-call-clause-event g c =
@@ -112,11 +114,13 @@ invariant_of-self-2 g c =
     let capacity = c.push.ensures.capacity in
     let items = c.push.ensures.items ∙ ap (λ z. z ++ Began c.in-Ok.shared c.args.key ∷ []) c.make_room.ensures.items in
     let len = c.push.ensures.len in
-    let kept = c.make_room.ensures.len in
-    (begin_holds (core_view d) w s.history.entries.items s.chapter s.begun.total s.taken.total s.begun_before s.taken_before (vec_len s.history.entries) (vec_capacity s.history.entries) s.places s.breaks c.self.invariant.0 h.move goes c.push.new.self.entries.items _ _ _ _ _
-    (begun_writes (core_view d) c.args.request c.in-Ok.shared c.args.key c.in_ok-call.call h.move w c.self.inside.history.entries.items c.push.new.self.entries.items c.in-Ok.ensures h.event items) (begun_begins (core_view d) fnv_index (arc_value c.args.request) c.args.key c.in_ok-call.call h.move w _ _ h.event c.add.ensures.total)
-    (begun_takes (core_view d) fnv_index (arc_value c.args.request) c.args.key c.in_ok-call.call h.move w _ h.event) (begun_longer (core_view d) fnv_index (arc_value c.args.request) c.args.key c.in_ok-call.call h.move w _ _ h.event (omega (arith, len, kept)))
-    (omega (arith, before, after, left, within, limit, room, capacity)) (omega (arith, before, after, left, within, limit, small)) (omega (arith, before, after, within)), c.self.invariant.1)
+    let kept = c.make_room.ensures.len in (
+      begin_holds (core_view d) w s.history.entries.items s.chapter s.begun.total s.taken.total s.begun_before s.taken_before (vec_len s.history.entries) (vec_capacity s.history.entries) s.places s.breaks c.self.invariant.0 h.move goes c.push.new.self.entries.items _ _ _ _ _
+          (begun_writes (core_view d) c.args.request c.in-Ok.shared c.args.key c.in_ok-call.call h.move w c.self.inside.history.entries.items c.push.new.self.entries.items c.in-Ok.ensures h.event items) (begun_begins (core_view d) fnv_index (arc_value c.args.request) c.args.key c.in_ok-call.call h.move w _ _ h.event c.add.ensures.total)
+          (begun_takes (core_view d) fnv_index (arc_value c.args.request) c.args.key c.in_ok-call.call h.move w _ h.event) (begun_longer (core_view d) fnv_index (arc_value c.args.request) c.args.key c.in_ok-call.call h.move w _ _ h.event (omega (arith, len, kept)))
+          (omega (arith, before, after, left, within, limit, room, capacity)) (omega (arith, before, after, left, within, limit, small)) (omega (arith, before, after, within)),
+      c.self.invariant.1,
+    )
 
 pub returns-clause-event : goal.returns-clause-event
 returns-clause-event g c =

@@ -13,9 +13,11 @@ invariant_of-state g c =
     let entries = c.entries-before.ensures ∙ ap (λ d. (core_view d).entries) c.state.ensures in
     let fewer = open_writes (core_view c.in_ok-core.core.dispatcher) (arc_value c.args.accepted) c.args.records.now c.in_ok-core.ensures.view in
     let count = c.count_breaks-breaks.ensures.count ∙ ap break_count c.deref.ensures in
-    let places = c.in-Some.ensures.0 in
-    (opened_holds g.B.HubLedger.opened (core_view c.in_ok-core.core.dispatcher) (arc_value c.args.accepted) c.args.records.now _ _ _ _ _ _ _ c.requires.opened c.in_ok-core.ensures.view (subst AreCovered c.deref.ensures c.count_breaks-breaks.ensures.covered) c.in-Ok.ensures.items
-    c.open-begun.ensures.total c.open-taken.ensures.total c.in-Ok.ensures.len (omega (arith, entries, fewer, count, places)) c.in-Ok.ensures.capacity c.in-Some.ensures.1 count, c.requires.number)
+    let places = c.in-Some.ensures.0 in (
+      opened_holds g.B.HubLedger.opened (core_view c.in_ok-core.core.dispatcher) (arc_value c.args.accepted) c.args.records.now _ _ _ _ _ _ _ c.requires.opened c.in_ok-core.ensures.view (subst AreCovered c.deref.ensures c.count_breaks-breaks.ensures.covered) c.in-Ok.ensures.items
+          c.open-begun.ensures.total c.open-taken.ensures.total c.in-Ok.ensures.len (omega (arith, entries, fewer, count, places)) c.in-Ok.ensures.capacity c.in-Some.ensures.1 count,
+      c.requires.number,
+    )
 
 pub returns-clause-due : goal.returns-clause-due
 returns-clause-due g c = opening_isnt_due _ _ _ (c.entries-before.ensures ∙ ap (λ d. (core_view d).entries) c.state.ensures) c.in-Ok.ensures.items

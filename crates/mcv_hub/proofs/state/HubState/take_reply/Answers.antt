@@ -27,9 +27,11 @@ invariant_of-self g c =
     let w = core_view c.take.new.self in
     let fault = c.in_err-found.field-0.0 in
     let h : IsEvent (IsTaken (core_view d) c.args.call (Err fault)) w = subst (λ d. IsEvent (IsTaken (core_view d) c.args.call (Err fault)) w) c.events.ensures.value c.in_err-found.ensures in
-    let goes = take_goes d w c.args.call (Err fault) h.move h.event in
-    (goes_holds (core_view d) w s.history.entries.items s.chapter s.begun.total s.taken.total s.begun_before s.taken_before (vec_len s.history.entries) (vec_capacity s.history.entries) s.places s.breaks c.self.invariant.0 h.move goes s.history.entries.items s.begun.total s.taken.total
-    (vec_len s.history.entries) (vec_capacity s.history.entries) (none_writes (core_view c.self.inside.core.dispatcher).routes c.self.inside.history.entries.items c.self.inside.history.entries.items h.move h.event.none refl) (none_begins _ h.move h.event.none) (none_takes _ h.move h.event.none) (none_longer _ h.move h.event.none) refl, c.self.invariant.1)
+    let goes = take_goes d w c.args.call (Err fault) h.move h.event in (
+      goes_holds (core_view d) w s.history.entries.items s.chapter s.begun.total s.taken.total s.begun_before s.taken_before (vec_len s.history.entries) (vec_capacity s.history.entries) s.places s.breaks c.self.invariant.0 h.move goes s.history.entries.items s.begun.total s.taken.total
+          (vec_len s.history.entries) (vec_capacity s.history.entries) (none_writes (core_view c.self.inside.core.dispatcher).routes c.self.inside.history.entries.items c.self.inside.history.entries.items h.move h.event.none refl) (none_begins _ h.move h.event.none) (none_takes _ h.move h.event.none) (none_longer _ h.move h.event.none) refl,
+      c.self.invariant.1,
+    )
 
 pub returns-in_err-found-clause-event : goal.returns-in_err-found-clause-event
 returns-in_err-found-clause-event g c =
@@ -52,9 +54,11 @@ invariant_of-self-in_default g c =
     let is : c.in_ok-found.found ≡ None = c.in_default.is in
     let h : IsEvent (IsTaken (core_view d) c.args.call (Ok None)) w = subst (λ (o : Option Part). IsEvent (IsTaken (core_view d) c.args.call (Ok o)) w) is (subst (λ d. IsEvent (IsTaken (core_view d) c.args.call (Ok c.in_ok-found.found)) w) c.events.ensures.value c.in_ok-found.ensures) in
     let none = untaken_none (core_view d) c.args.call h.move w h.event in
-    let goes = take_goes d w c.args.call (Ok None) h.move h.event in
-    (goes_holds (core_view d) w s.history.entries.items s.chapter s.begun.total s.taken.total s.begun_before s.taken_before (vec_len s.history.entries) (vec_capacity s.history.entries) s.places s.breaks c.self.invariant.0 h.move goes s.history.entries.items s.begun.total s.taken.total
-    (vec_len s.history.entries) (vec_capacity s.history.entries) (none_writes (core_view c.self.inside.core.dispatcher).routes c.self.inside.history.entries.items c.self.inside.history.entries.items h.move none refl) (none_begins _ h.move none) (none_takes _ h.move none) (none_longer _ h.move none) refl, c.self.invariant.1)
+    let goes = take_goes d w c.args.call (Ok None) h.move h.event in (
+      goes_holds (core_view d) w s.history.entries.items s.chapter s.begun.total s.taken.total s.begun_before s.taken_before (vec_len s.history.entries) (vec_capacity s.history.entries) s.places s.breaks c.self.invariant.0 h.move goes s.history.entries.items s.begun.total s.taken.total
+          (vec_len s.history.entries) (vec_capacity s.history.entries) (none_writes (core_view c.self.inside.core.dispatcher).routes c.self.inside.history.entries.items c.self.inside.history.entries.items h.move none refl) (none_begins _ h.move none) (none_takes _ h.move none) (none_longer _ h.move none) refl,
+      c.self.invariant.1,
+    )
 
 pub returns-in_default-clause-event : goal.returns-in_default-clause-event
 returns-in_default-clause-event g c =
@@ -85,10 +89,12 @@ invariant_of-self-2 g c =
     let d = s.core.dispatcher in
     let w = core_view c.take.new.self in
     let h : IsEvent (IsTaken (core_view d) c.args.call (Ok (Some c.in-Some.reply))) w = subst (λ o. IsEvent (IsTaken (core_view d) c.args.call (Ok o)) w) c.in-Some.is (subst (λ d. IsEvent (IsTaken (core_view d) c.args.call (Ok c.in_ok-found.found)) w) c.events.ensures.value c.in_ok-found.ensures) in
-    let goes = take_goes d w c.args.call (Ok (Some c.in-Some.reply)) h.move h.event in
-    (goes_holds (core_view d) w s.history.entries.items s.chapter s.begun.total s.taken.total s.begun_before s.taken_before (vec_len s.history.entries) (vec_capacity s.history.entries) s.places s.breaks c.self.invariant.0 h.move goes c.push.new.self.entries.items _ _ _ _
-    (one_writes (core_view c.self.inside.core.dispatcher).routes c.self.inside.history.entries.items c.push.new.self.entries.items (Taken c.args.call) h.move (taken_move c.args.call.0) h.event.move refl c.push.ensures.items) (taken_begins h.move c.args.call.0 _ h.event.move) (taken_takes h.move c.args.call.0 _ _ h.event.move c.add.ensures.total)
-    (taken_longer h.move c.args.call.0 _ _ h.event.move c.push.ensures.len) c.push.ensures.capacity, c.self.invariant.1)
+    let goes = take_goes d w c.args.call (Ok (Some c.in-Some.reply)) h.move h.event in (
+      goes_holds (core_view d) w s.history.entries.items s.chapter s.begun.total s.taken.total s.begun_before s.taken_before (vec_len s.history.entries) (vec_capacity s.history.entries) s.places s.breaks c.self.invariant.0 h.move goes c.push.new.self.entries.items _ _ _ _
+          (one_writes (core_view c.self.inside.core.dispatcher).routes c.self.inside.history.entries.items c.push.new.self.entries.items (Taken c.args.call) h.move (taken_move c.args.call.0) h.event.move refl c.push.ensures.items) (taken_begins h.move c.args.call.0 _ h.event.move) (taken_takes h.move c.args.call.0 _ _ h.event.move c.add.ensures.total)
+          (taken_longer h.move c.args.call.0 _ _ h.event.move c.push.ensures.len) c.push.ensures.capacity,
+      c.self.invariant.1,
+    )
 
 pub returns-clause-event : goal.returns-clause-event
 returns-clause-event g c =
