@@ -53,7 +53,7 @@ by_parts (Err e) op rest f a b c = c
 -- ---- memory and view
 
 -- in front of others
-recorded_before : List Launch → List Kept → List Recorded → List Recorded
+abbrev recorded_before : List Launch → List Kept → List Recorded → List Recorded
 recorded_before es [] rs = rs
 recorded_before es (h ∷ hs) rs = recorded_one es h ∷ recorded_before es hs rs
 
