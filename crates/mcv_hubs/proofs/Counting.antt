@@ -14,7 +14,7 @@ use Rattle.mcv_hubs.specs.Counts.{Tally, begun_by, change_at, taken_by, tally}
 
 -- ---- by one seat
 
-same_tally : (a a2 t t2 p p2 q q2 : ℕ) → a2 ≡ a → t2 ≡ t → p2 ≡ p → q2 ≡ q → tally a2 t2 p2 q2 ≡ tally a t p q
+pub same_tally : (a a2 t t2 p p2 q q2 : ℕ) → a2 ≡ a → t2 ≡ t → p2 ≡ p → q2 ≡ q → tally a2 t2 p2 q2 ≡ tally a t p q
 same_tally a a2 t t2 p p2 q q2 begun taken begun_parts taken_parts =
     ap (λ x. tally x t2 p2 q2) begun ∙ ap (λ x. tally a x p2 q2) taken ∙ ap (λ x. tally a t x q2) begun_parts ∙ ap (λ x. tally a t p x) taken_parts
 

@@ -143,6 +143,18 @@ pub record IsReplyFor (opened : CoreView) (request : RequestValue) (key : ℕ) (
   pub taken : WasTaken opened t
   pub for_key : IsFor opened.routes request key t
 
+-- it is the only one of these replies, and is for the key of this number
+pub record IsOnlyReplyFor (r : RoutesValue) (request : RequestValue) (key : ℕ) (taken : List TakenReply) (t : TakenReply) : Type 0 where
+  pub only : taken ≡ t ∷ []
+  pub for_key : IsFor r request key t
+
+-- the only one of these replies is for another key, or for none, which is answered by this fault
+pub record HasOtherReply (r : RoutesValue) (request : RequestValue) (key : ℕ) (taken : List TakenReply) (fault : CoreFault) : Type 0 where
+  pub is : fault ≡ NoSuchCall
+  pub reply : TakenReply
+  pub only : taken ≡ reply ∷ []
+  pub other : IsFor r request key reply → ⊥
+
 -- a reply of the hub is for another key than that of this number, or for none
 pub record IsForAnother (opened : CoreView) (request : RequestValue) (key : ℕ) : Type 0 where
   pub reply : TakenReply

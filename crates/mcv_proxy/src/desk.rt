@@ -5,7 +5,7 @@ ghost use Rattle.std.specs.Arc.{arc_value};
 ghost use Rattle.std.specs.List.{All, filter};
 ghost use Rattle.mcv_text.specs.Request.{request_value};
 ghost use Rattle.mcv_session.specs.Desk.{keys_of};
-ghost use Rattle.mcv_proxy.specs.Desk.{AreBegun, AreFor, AreTaken, Asks, HasMissing, IsFor, IsReplyFor, IsRouted, IsUnanswered, IsUnrouted, IsUntaken, WasAsked, WasBegun, WasMissing, WasRefused, WasTaken, desk_fault, with_receipt, word_at};
+ghost use Rattle.mcv_proxy.specs.Desk.{AreBegun, AreFor, AreTaken, Asks, HasMissing, HasOtherReply, IsFor, IsOnlyReplyFor, IsReplyFor, IsRouted, IsUnanswered, IsUnrouted, IsUntaken, WasAsked, WasBegun, WasMissing, WasRefused, WasTaken, desk_fault, with_receipt, word_at};
 
 use crate::agenda::Agenda;
 use crate::errands::Errands;
@@ -548,15 +548,27 @@ impl<'a, B: HubLedger, T: Ledger, L: Link, W: Watch, R: Wait + Clock> Caller<'a,
     }
 }
 
-/// The reply in a list of one at most, which is empty then.
-fn taken_out(one: &mut Vec<TakenReply>) -> Option<TakenReply>
-    requires { vec_len one.old ≤ 1 }
-    ensures some { IfSome result (λ reply. one.old.items ≡ reply ∷ []) }
-    ensures none { IfNone result (one.old.items ≡ []) }
+/// The one reply in a list, which is empty then, where it is for this key; else it is dropped, and it is NoSuchCall.
+fn reply_for(
+    routes: &Routes,
+    request: &Request,
+    key: usize,
+    one: &mut Vec<TakenReply>,
+) -> Result<TakenReply, CoreFault>
+    requires { vec_len one.old ≡ 1 }
+    ensures ok { IfOk result (IsOnlyReplyFor routes.now (request_value request.now) key one.old.items) }
+    ensures err { IfErr result (HasOtherReply routes.now (request_value request.now) key one.old.items) }
     ensures empty { one.new.items ≡ [] }
     ensures room { vec_capacity one.new ≡ vec_capacity one.old }
 {
-    one.pop()
+    let Some(reply) = one.pop() else {
+        unreachable!()
+    };
+    if is_for(routes, request, key, &reply) {
+        Ok(reply)
+    } else {
+        Err(CoreFault::NoSuchCall)
+    }
 }
 
 impl<'a, B: HubLedger, T: Ledger, L: Link, W: Watch, R: Wait + Clock> HubDesk<'a, B, T, L, W, R> {
@@ -717,18 +729,12 @@ impl<'a, B: HubLedger, T: Ledger, L: Link, R: Wait + Clock> HubDesk<'a, B, T, L,
         ensures empty { one.new.items ≡ [] }
         ensures room { vec_capacity one.new ≡ vec_capacity one.old }
     {
-        let outcome = self.caller.take_all(&[call], one);
-        let reply = taken_out(one);
-        outcome?;
-        match reply {
-            Some(reply) => {
-                if is_for(self.routes.get(), request, key, &reply) {
-                    Ok(reply)
-                } else {
-                    Err(CoreFault::NoSuchCall)
-                }
+        match self.caller.take_all(&[call], one) {
+            Ok(()) => reply_for(self.routes.get(), request, key, one),
+            Err(fault) => {
+                one.clear();
+                Err(fault)
             }
-            None => unreachable!(),
         }
     }
 }

@@ -1,5 +1,6 @@
-use Rattle.std.proofs.Common.{◌∙◌, [], ◌∷◌, ap}
-use Rattle.mcv_hubs.specs.Reports.{both, known}
+use Rattle.std.proofs.Common.{◌∙◌, [], ◌∷◌, ap, refl, sym, true≢false}
+use Rattle.mcv_hubs.specs.Reports.{both, known, unknown}
+use Rattle.mcv_hubs.proofs.Counting.{same_eight}
 use Rattle.mcv_hubs.proofs.hubs.Hubs.close.Goals as goal
 
 pub returns-clause-closing : goal.returns-clause-closing
@@ -16,3 +17,10 @@ returns-clause-closing g c =
     (known (c.are_of_hubs.ensures.0 c.if-not-are_of_hubs.false) (c.close_one-answer0.result ∷ c.close_one-answer1.result ∷ c.close_one-answer2.result ∷ c.close_one-answer3.result ∷ c.close_one-answer4.result ∷ c.close_one-answer5.result ∷ c.close_one-answer6.result ∷ c.close_one-answer7.result ∷ [])
     (c.close_one-answer0.ensures.answer, (c.close_one-answer1.ensures.answer, (c.close_one-answer2.ensures.answer, (c.close_one-answer3.ensures.answer, (c.close_one-answer4.ensures.answer, (c.close_one-answer5.ensures.answer, (c.close_one-answer6.ensures.answer, (c.close_one-answer7.ensures.answer, tt))))))))
     total7)
+
+pub returns-clause-same : goal.returns-clause-same
+returns-clause-same g c = rw (← c.seats.view_is) (same_eight _ _ _ _ _ _ _ _ _ _ _ _ _ _ _ _ c.close_one-answer0.ensures.same c.close_one-answer1.ensures.same c.close_one-answer2.ensures.same c.close_one-answer3.ensures.same c.close_one-answer4.ensures.same c.close_one-answer5.ensures.same c.close_one-answer6.ensures.same c.close_one-answer7.ensures.same)
+
+-- some receipt names no hub
+pub returns-then-not-are_of_hubs-clause-closing : goal.returns-then-not-are_of_hubs-clause-closing
+returns-then-not-are_of_hubs-clause-closing g c = unknown (λ all. true≢false (sym (c.are_of_hubs.ensures.1 all) ∙ c.if-not-are_of_hubs.true)) refl
