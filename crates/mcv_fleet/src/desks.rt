@@ -79,8 +79,6 @@ struct Room {
 }
 
 impl Room {
-    ghost use Rattle.mcv_fleet.specs.Room.{IsRoomFor};
-
     /// Room for so many calls.
     fn new(alloc: Global, count: usize) -> Result<Room, AllocError>
         ensures { IfOk result (IsRoomFor count) }
