@@ -7,6 +7,7 @@ mod options;
 mod words;
 
 pub use options::{
-    ClientTimeout, Hubs, InRange, RunOptions, ServerTimeout, Sessions, Settings, Window,
+    ClientTimeout, Hubs, InRange, RunOptions, ServerTimeout, Sessions, Settings, SpoolOptions,
+    Window,
 };
 pub use words::{Job, LineFault, read_words};
