@@ -351,18 +351,18 @@ impl<'a, F: HubNames, G: Names, L: Link, W: Watch, R: Wait + Clock> HubsDesk<'a,
     /// Begins a call for each key of a request at its hub, in the order of the keys, up to the first that is refused.
     fn begin_each(
         &mut self,
+        choice: &HubChoice,
         moment: Moment,
         request: &Arc<Request>,
         calls: &mut Vec<HubCall>,
     ) -> Result<(), CoreFault>
         requires empty { calls.old.items ≡ [] }
         requires room { length (keys_of (request_value (arc_value request.now))) ≤ vec_capacity calls.old }
-        ensures began { AreBegunAt F.opened_of self.old.choice.now (arc_value request.now) calls.new.items }
+        ensures began { AreBegunAt F.opened_of choice.now (arc_value request.now) calls.new.items }
         ensures all { OnOk result (vec_len calls.new ≡ length (keys_of (request_value (arc_value request.now)))) }
         ensures most { vec_len calls.new ≤ length (keys_of (request_value (arc_value request.now))) }
-        ensures err { IfErr result (IsKeyRefused F.opened_of self.old.choice.now (arc_value request.now)) }
+        ensures err { IfErr result (IsKeyRefused F.opened_of choice.now (arc_value request.now)) }
     {
-        let choice = self.choice;
         let words: &Request = request;
         for key in 0..key_count(words) {
             let hub = choice.hub_of_key(words, key);
@@ -378,23 +378,24 @@ impl<'a, F: HubNames, G: Names, L: Link, W: Watch, R: Wait + Clock> HubsDesk<'a,
     /// too.
     fn take_each(
         &mut self,
+        choice: &HubChoice,
         request: &Request,
         calls: &[HubCall],
         one: &mut Vec<TakenReply>,
         taken: &mut Vec<TakenReply>,
     ) -> Result<(), CoreFault>
-        requires began { AreBegunAt F.opened_of self.old.choice.now request.now calls.now }
+        requires began { AreBegunAt F.opened_of choice.now request.now calls.now }
         requires empty { one.old.items ≡ [] }
         requires room { 1 ≤ vec_capacity one.old }
         requires none { taken.old.items ≡ [] }
         requires places { length calls.now ≤ vec_capacity taken.old }
-        ensures taken { OnOk result (AreForKeys F.opened_of self.old.choice.now (request_value request.now) taken.new.items) }
+        ensures taken { OnOk result (AreForKeys F.opened_of choice.now (request_value request.now) taken.new.items) }
         ensures all { OnOk result (vec_len taken.new ≡ length calls.now) }
-        ensures err { IfErr result (IsKeyRefused F.opened_of self.old.choice.now request.now) }
+        ensures err { IfErr result (IsKeyRefused F.opened_of choice.now request.now) }
         ensures places { vec_capacity taken.new ≡ vec_capacity taken.old }
     {
         key_words_have_one_reading();
-        let _hubs = self.choice.hubs();
+        let _hubs = choice.hubs();
         let mut missed = None;
         for key in 0..calls.len() {
             match self.take_at(request, key, calls[key], one) {
@@ -428,8 +429,10 @@ impl<'a, F: HubNames, G: Names, L: Link, W: Watch, R: Wait + Clock> HubsDesk<'a,
             taken,
             ..
         } = room;
-        let begun = self.begin_each(moment, request, calls);
-        let outcome = self.take_each(request, calls.as_slice(), one, taken);
+        let choice = self.choice;
+        let words: &Request = request;
+        let begun = self.begin_each(choice, moment, request, calls);
+        let outcome = self.take_each(choice, words, calls.as_slice(), one, taken);
         self.mixed.keep_those_of(taken.as_slice());
         outcome?;
         begun
@@ -445,7 +448,10 @@ impl<'a, F: HubNames, G: Names, L: Link, W: Watch, R: Wait + Clock> HubsDesk<'a,
             return Err(DeskFault::Memory);
         };
         match self.take_replies(moment, request, &mut room) {
-            Ok(()) => Ok(into_parts(room.taken, room.parts)),
+            Ok(()) => {
+                let Room { taken, parts, .. } = room;
+                Ok(into_parts(taken, parts))
+            }
             Err(fault) => Err(fault_for(fault)),
         }
     }

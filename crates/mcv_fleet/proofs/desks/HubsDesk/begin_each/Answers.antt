@@ -8,14 +8,14 @@ use Rattle.mcv_fleet.proofs.desks.HubsDesk.begin_each.Goals as goal
 
 pub loop-key-init : goal.loop-key-init
 loop-key-init g c = record {
-  began = none_was_begun_at g.F.HubNames.opened_of c.args.self.now.choice.now (arc_value c.args.request.now) c.args.calls.now.items c.requires.empty;
+  began = none_was_begun_at g.F.HubNames.opened_of c.args.choice.now (arc_value c.args.request.now) c.args.calls.now.items c.requires.empty;
   each = search rules;
   room = search rules;
 }
 
 pub loop-key-preserved : goal.loop-key-preserved
 loop-key-preserved g c =
-    let hubs = c.args.self.now.choice.now in
+    let hubs = c.args.choice.now in
     let request = arc_value c.args.request.now in
     let key = c.loop-key.key in
     let hub = c.hub_of_key-hub.result in
@@ -30,7 +30,7 @@ loop-key-preserved g c =
 -- no call is begun for this key
 pub returns-in-Err-clause-err : goal.returns-in-Err-clause-err
 returns-in-Err-clause-err g c =
-    let hubs = c.args.self.now.choice.now in
+    let hubs = c.args.choice.now in
     let key = c.loop-key.key in
     let hub = c.hub_of_key-hub.result in
     record { key = key; hub = hub; there = c.hub_of_key-hub.ensures.there; of_key = subst (λ r. IsHubOf hubs r key hub) c.deref-words.ensures c.hub_of_key-hub.ensures.hub; why = unbegun c.in-Err.ensures.err }

@@ -13,7 +13,7 @@ loop-key-init g c = record {
   most = search rules;
   places = refl;
   all = λ _. search rules;
-  taken = λ _. none_for_keys g.F.HubNames.opened_of c.args.self.now.choice.now c.args.request.now c.args.taken.now.items c.requires.none;
+  taken = λ _. none_for_keys g.F.HubNames.opened_of c.args.choice.now c.args.request.now c.args.taken.now.items c.requires.none;
   why = tt;
 }
 
@@ -23,7 +23,7 @@ take_at-requires g c =
     let call = c.index-calls-key.result in
     let key = c.loop-key.key in
     let within : key < length c.args.calls.now = search rules in
-    let begun : IsBegunAt g.F.HubNames.opened_of c.args.self.now.choice.now c.args.request.now key call = c.requires.began key call (slice_get_read c.args.calls.now (length c.args.calls.now) key call refl within c.index-calls-key.is) in
+    let begun : IsBegunAt g.F.HubNames.opened_of c.args.choice.now c.args.request.now key call = c.requires.began key call (slice_get_read c.args.calls.now (length c.args.calls.now) key call refl within c.index-calls-key.is) in
     let there = begun.there in
     let most = c.hubs-_hubs.ensures.most in
     let hubs = c.hubs-_hubs.ensures.hubs in
@@ -32,7 +32,7 @@ take_at-requires g c =
 pub loop-key-preserved : goal.loop-key-preserved
 loop-key-preserved g c =
     let opened_of = g.F.HubNames.opened_of in
-    let hubs = c.args.self.now.choice.now in
+    let hubs = c.args.choice.now in
     let request = c.args.request.now in
     let key = c.loop-key.key in
     let call = c.index-calls-key.result in

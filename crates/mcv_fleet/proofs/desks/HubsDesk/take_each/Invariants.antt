@@ -12,6 +12,6 @@ invariant-loop-key g l = record {
   most : vec_len l.taken ≤ l.key;
   places : vec_capacity l.taken ≡ vec_capacity l.fn.taken;
   all : l.missed ≡ None → vec_len l.taken ≡ l.key;
-  taken : l.missed ≡ None → AreForKeys g.F.HubNames.opened_of l.fn.self.choice.now (request_value l.request) l.taken.items;
-  why : IfSome l.missed (IsKeyRefused g.F.HubNames.opened_of l.fn.self.choice.now l.request);
+  taken : l.missed ≡ None → AreForKeys g.F.HubNames.opened_of l.choice (request_value l.request) l.taken.items;
+  why : IfSome l.missed (IsKeyRefused g.F.HubNames.opened_of l.choice l.request);
 }
