@@ -1,0 +1,213 @@
+//! The hubs of a proxy.
+
+ghost use Rattle.std.specs.Prelude.{◌≡◌, ◌+◌, ◌<◌, ◌≤◌, ℕ, IfErr, IfOk};
+ghost use Rattle.std.specs.Arc.{arc_value};
+ghost use Rattle.mcv_core.specs.Opening.{opened_view};
+ghost use Rattle.mcv_core.specs.declared.fault.CoreFault.TheVariants.{Memory as OutOfMemory};
+ghost use Rattle.mcv_hubs.specs.Blanks.{AreOf};
+ghost use Rattle.mcv_hubs.specs.Choice.{records_at};
+ghost use Rattle.mcv_hubs.specs.Counts.{begun_by, change_at, taken_by};
+ghost use Rattle.mcv_hubs.specs.Taken.{IsBegunAt, WasBegun, WasTaken};
+
+use crate::choice::HubChoice;
+use crate::names::{At, Blanks, HubNames, Names};
+use crate::one;
+use crate::seats::{HubPasses, Seats};
+use mcv_base::{CallId, Request};
+use mcv_check::Accepted;
+use mcv_core::CoreFault;
+use mcv_hub::{Capacity, Hub, HubLedger, Pass, Passes, TakenReply};
+use mcv_spool::SpoolRecord;
+use std::alloc::Global;
+use std::rt::Clock;
+use std::sync::ledger::{Blank, Ledger};
+use std::sync::{Arc, Wait};
+
+/// A call of one of the hubs.
+#[derive(Clone, Copy, Debug, PartialEq, Eq)]
+pub struct HubCall {
+    /// The number of the hub, from 0.
+    pub hub: usize,
+    pub call: CallId,
+}
+
+/// Eight hubs, of which the first ones have the keys.
+#[derive(Drop)]
+pub struct Hubs<F: HubNames, G: Names> {
+    pub choice: HubChoice,
+    pub hub0: Hub<At<F, 0>, At<G, 0>>,
+    pub hub1: Hub<At<F, 1>, At<G, 1>>,
+    pub hub2: Hub<At<F, 2>, At<G, 2>>,
+    pub hub3: Hub<At<F, 3>, At<G, 3>>,
+    pub hub4: Hub<At<F, 4>, At<G, 4>>,
+    pub hub5: Hub<At<F, 5>, At<G, 5>>,
+    pub hub6: Hub<At<F, 6>, At<G, 6>>,
+    pub hub7: Hub<At<F, 7>, At<G, 7>>,
+}
+
+/// What hubs begin with.
+#[derive(Clone, Copy)]
+struct Stock<'a> {
+    alloc: Global,
+    accepted: &'a Arc<Accepted>,
+    choice: &'a HubChoice,
+    records: &'a [(u64, SpoolRecord)],
+    capacity: Capacity,
+}
+
+/// The hub of this number with its records.
+fn open<B: HubLedger, T: Ledger>(
+    stock: &Stock<'_>,
+    hub: usize,
+    begun: Blank,
+    taken: Blank,
+) -> Result<(Hub<B, T>, Passes<B, T>), CoreFault>
+    requires number { hub ≡ B.number }
+    requires begun { (begun.name ≡ B.name) × (begun.parts ≡ B.parts) × (begun.parts ≡ stock.now.capacity.seats + 1) }
+    requires taken { (taken.name ≡ T.name) × (taken.parts ≡ T.parts) × (taken.parts ≡ stock.now.capacity.seats + 1) }
+    requires opened { B.opened ≡ opened_view (arc_value stock.now.accepted.now) (records_at stock.now.choice.now hub stock.now.records.now) }
+    ensures seats { IfOk result (λ r. r.1.left ≡ stock.now.capacity.seats) }
+    ensures err { IfErr result (λ fault. fault ≡ OutOfMemory) }
+{
+    let alloc = stock.alloc;
+    let Ok(accepted) = Arc::try_clone(stock.accepted) else {
+        return Err(CoreFault::Memory);
+    };
+    let Ok(records) = stock.choice.records_at(alloc, hub, stock.records) else {
+        return Err(CoreFault::Memory);
+    };
+    let records = records.as_slice();
+    Hub::new(alloc, accepted, hub, records, stock.capacity, begun, taken)
+}
+
+impl<F: HubNames, G: Names> Hubs<F, G> {
+    /// Hubs over these routes, each with the records of its keys, and what makes their passes and seats. The one error is
+    /// Memory.
+    pub fn new(
+        alloc: Global,
+        accepted: Arc<Accepted>,
+        choice: HubChoice,
+        records: &[(u64, SpoolRecord)],
+        capacity: Capacity,
+        begun: Blanks,
+        taken: Blanks,
+    ) -> Result<(Hubs<F, G>, HubPasses<F, G>), CoreFault>
+        requires begun { AreOf F.name_of F.parts_of (capacity.seats + 1) begun }
+        requires taken { AreOf G.name_of G.parts_of (capacity.seats + 1) taken }
+        requires opened { (hub : ℕ) → F.opened_of hub ≡ opened_view (arc_value accepted) (records_at choice hub records.now) }
+        ensures choice { IfOk result (λ r. r.0.choice ≡ choice) }
+        ensures seats { IfOk result (λ r. r.1 ≡ capacity.seats) }
+        ensures err { IfErr result (λ fault. fault ≡ OutOfMemory) }
+    {
+        let stock = Stock {
+            alloc,
+            accepted: &accepted,
+            choice: &choice,
+            records,
+            capacity,
+        };
+        let (hub0, passes0) = open(&stock, 0, begun.blank0, taken.blank0)?;
+        let (hub1, passes1) = open(&stock, 1, begun.blank1, taken.blank1)?;
+        let (hub2, passes2) = open(&stock, 2, begun.blank2, taken.blank2)?;
+        let (hub3, passes3) = open(&stock, 3, begun.blank3, taken.blank3)?;
+        let (hub4, passes4) = open(&stock, 4, begun.blank4, taken.blank4)?;
+        let (hub5, passes5) = open(&stock, 5, begun.blank5, taken.blank5)?;
+        let (hub6, passes6) = open(&stock, 6, begun.blank6, taken.blank6)?;
+        let (hub7, passes7) = open(&stock, 7, begun.blank7, taken.blank7)?;
+        let hubs = Hubs {
+            choice,
+            hub0,
+            hub1,
+            hub2,
+            hub3,
+            hub4,
+            hub5,
+            hub6,
+            hub7,
+        };
+        let passes = HubPasses {
+            passes0,
+            passes1,
+            passes2,
+            passes3,
+            passes4,
+            passes5,
+            passes6,
+            passes7,
+        };
+        Ok((hubs, passes))
+    }
+
+    /// Begins a call for one key of the request, counted from 0, at the hub of that key. Where that hub's next chapter is due
+    /// the first key waits for it, for a second at most (`Hub::enter`).
+    pub fn begin<R: Wait + Clock>(
+        &self,
+        rt: &R,
+        alloc: Global,
+        pass: &mut Pass,
+        seats: &mut Seats<F, G>,
+        asked: (Arc<Request>, usize),
+    ) -> Result<HubCall, CoreFault>
+        ensures { IsBegunAt self.now.choice (arc_value asked.0) asked.1 seats.old result seats.new }
+    {
+        let hub = self.choice.hub_of_key(&asked.0, asked.1);
+        match self.begin_at(rt, alloc, pass, seats, hub, asked) {
+            Ok(call) => Ok(HubCall { hub, call }),
+            Err(fault) => Err(fault),
+        }
+    }
+
+    /// Begins a call at the hub of this number.
+    fn begin_at<R: Wait + Clock>(
+        &self,
+        rt: &R,
+        alloc: Global,
+        pass: &mut Pass,
+        seats: &mut Seats<F, G>,
+        hub: usize,
+        asked: (Arc<Request>, usize),
+    ) -> Result<CallId, CoreFault>
+        requires { hub < 8 }
+        ensures event { WasBegun hub (arc_value asked.0) asked.1 result }
+        ensures counted { seats.new ≡ change_at hub (begun_by result) seats.old }
+    {
+        match hub {
+            0 => one::begin(rt, alloc, &self.hub0, pass, &mut seats.seat0, asked),
+            1 => one::begin(rt, alloc, &self.hub1, pass, &mut seats.seat1, asked),
+            2 => one::begin(rt, alloc, &self.hub2, pass, &mut seats.seat2, asked),
+            3 => one::begin(rt, alloc, &self.hub3, pass, &mut seats.seat3, asked),
+            4 => one::begin(rt, alloc, &self.hub4, pass, &mut seats.seat4, asked),
+            5 => one::begin(rt, alloc, &self.hub5, pass, &mut seats.seat5, asked),
+            6 => one::begin(rt, alloc, &self.hub6, pass, &mut seats.seat6, asked),
+            _ => one::begin(rt, alloc, &self.hub7, pass, &mut seats.seat7, asked),
+        }
+    }
+
+    /// Takes the reply to a call, once; None where it has none, or it was taken. An error is NoSuchCall, where the call doesn't
+    /// run, or there is no such hub.
+    pub fn take_reply<R: Wait>(
+        &self,
+        rt: &R,
+        alloc: Global,
+        pass: &mut Pass,
+        seats: &mut Seats<F, G>,
+        call: HubCall,
+    ) -> Result<Option<TakenReply>, CoreFault>
+        ensures event { call.hub < 8 → WasTaken call.hub call.call result }
+        ensures unknown { 8 ≤ call.hub → result ≡ Err CoreFault.NoSuchCall }
+        ensures counted { seats.new ≡ change_at call.hub (taken_by result) seats.old }
+    {
+        let number = call.call;
+        match call.hub {
+            0 => one::take_reply(rt, alloc, &self.hub0, pass, &mut seats.seat0, number),
+            1 => one::take_reply(rt, alloc, &self.hub1, pass, &mut seats.seat1, number),
+            2 => one::take_reply(rt, alloc, &self.hub2, pass, &mut seats.seat2, number),
+            3 => one::take_reply(rt, alloc, &self.hub3, pass, &mut seats.seat3, number),
+            4 => one::take_reply(rt, alloc, &self.hub4, pass, &mut seats.seat4, number),
+            5 => one::take_reply(rt, alloc, &self.hub5, pass, &mut seats.seat5, number),
+            6 => one::take_reply(rt, alloc, &self.hub6, pass, &mut seats.seat6, number),
+            7 => one::take_reply(rt, alloc, &self.hub7, pass, &mut seats.seat7, number),
+            _ => Err(CoreFault::NoSuchCall),
+        }
+    }
+}
