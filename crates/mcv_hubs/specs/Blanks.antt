@@ -1,6 +1,16 @@
 -- The ledgers that hubs begin with (own).
-use Rattle.std.specs.Prelude.{◌≡◌, ℕ, zero, suc}
+use Rattle.std.specs.Prelude.{◌≡◌, ◌+◌, ℕ, zero, suc}
+use Rattle.std.specs.declared.sync.ledger.Blank.{Blank}
 use Rattle.mcv_hubs.specs.declared.names.Blanks.{Blanks}
+
+-- it opens the ledger of this name and these parts, which are so many
+abbrev pub Opens : (name parts count : ℕ) → Blank → Type 0
+Opens name parts count b = (b.name ≡ name) × (b.parts ≡ parts) × (b.parts ≡ count)
+
+-- these open the family's ledgers of this number and the three next ones
+abbrev pub OpenFour : (name_of : ℕ → ℕ) → (parts_of count hub : ℕ) → (b0 b1 b2 b3 : Blank) → Type 0
+OpenFour name_of parts_of count hub b0 b1 b2 b3 =
+    Opens (name_of hub) parts_of count b0 × Opens (name_of (hub + 1)) parts_of count b1 × Opens (name_of (hub + 2)) parts_of count b2 × Opens (name_of (hub + 3)) parts_of count b3
 
 -- each has so many parts
 pub record HaveParts (parts : ℕ) (b : Blanks) : Type 0 where

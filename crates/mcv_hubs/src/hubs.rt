@@ -4,7 +4,7 @@ ghost use Rattle.std.specs.Prelude.{◌≡◌, ◌+◌, ◌<◌, ◌≤◌, ℕ,
 ghost use Rattle.std.specs.Arc.{arc_value};
 ghost use Rattle.mcv_core.specs.Opening.{opened_view};
 ghost use Rattle.mcv_core.specs.declared.fault.CoreFault.TheVariants.{Memory as OutOfMemory};
-ghost use Rattle.mcv_hubs.specs.Blanks.{AreOf};
+ghost use Rattle.mcv_hubs.specs.Blanks.{AreOf, OpenFour, Opens};
 ghost use Rattle.mcv_hubs.specs.Choice.{records_at};
 ghost use Rattle.mcv_hubs.specs.Counts.{begun_by, change_at, taken_by};
 ghost use Rattle.mcv_hubs.specs.Taken.{IsBegunAt, WasBegun, WasTaken};
@@ -55,18 +55,43 @@ struct Stock<'a> {
     capacity: Capacity,
 }
 
+/// A hub that was opened, and what makes its passes and seats.
+#[derive(Drop)]
+struct Opened<B: HubLedger, T: Ledger> {
+    hub: Hub<B, T>,
+    passes: Passes<B, T>,
+}
+
+/// The hubs 0 to 3.
+#[derive(Drop)]
+struct FirstHubs<F: HubNames, G: Names> {
+    opened0: Opened<At<F, 0>, At<G, 0>>,
+    opened1: Opened<At<F, 1>, At<G, 1>>,
+    opened2: Opened<At<F, 2>, At<G, 2>>,
+    opened3: Opened<At<F, 3>, At<G, 3>>,
+}
+
+/// The hubs 4 to 7.
+#[derive(Drop)]
+struct LastHubs<F: HubNames, G: Names> {
+    opened4: Opened<At<F, 4>, At<G, 4>>,
+    opened5: Opened<At<F, 5>, At<G, 5>>,
+    opened6: Opened<At<F, 6>, At<G, 6>>,
+    opened7: Opened<At<F, 7>, At<G, 7>>,
+}
+
 /// The hub of this number with its records.
 fn open<B: HubLedger, T: Ledger>(
     stock: &Stock<'_>,
     hub: usize,
     begun: Blank,
     taken: Blank,
-) -> Result<(Hub<B, T>, Passes<B, T>), CoreFault>
+) -> Result<Opened<B, T>, CoreFault>
     requires number { hub ≡ B.number }
-    requires begun { (begun.name ≡ B.name) × (begun.parts ≡ B.parts) × (begun.parts ≡ stock.now.capacity.seats + 1) }
-    requires taken { (taken.name ≡ T.name) × (taken.parts ≡ T.parts) × (taken.parts ≡ stock.now.capacity.seats + 1) }
+    requires begun { Opens B.name B.parts (stock.now.capacity.seats + 1) begun }
+    requires taken { Opens T.name T.parts (stock.now.capacity.seats + 1) taken }
     requires opened { B.opened ≡ opened_view (arc_value stock.now.accepted.now) (records_at stock.now.choice.now hub stock.now.records.now) }
-    ensures seats { IfOk result (λ r. r.1.left ≡ stock.now.capacity.seats) }
+    ensures seats { IfOk result (λ r. r.passes.left ≡ stock.now.capacity.seats) }
     ensures err { IfErr result (λ fault. fault ≡ OutOfMemory) }
 {
     let alloc = stock.alloc;
@@ -77,7 +102,91 @@ fn open<B: HubLedger, T: Ledger>(
         return Err(CoreFault::Memory);
     };
     let records = records.as_slice();
-    Hub::new(alloc, accepted, hub, records, stock.capacity, begun, taken)
+    let (hub, passes) = Hub::new(alloc, accepted, hub, records, stock.capacity, begun, taken)?;
+    Ok(Opened { hub, passes })
+}
+
+/// The hubs 0 to 3 with their records.
+fn open_first<F: HubNames, G: Names>(
+    stock: &Stock<'_>,
+    begun: (Blank, Blank, Blank, Blank),
+    taken: (Blank, Blank, Blank, Blank),
+) -> Result<FirstHubs<F, G>, CoreFault>
+    requires begun { OpenFour F.name_of F.parts_of (stock.now.capacity.seats + 1) 0 begun.0 begun.1 begun.2 begun.3 }
+    requires taken { OpenFour G.name_of G.parts_of (stock.now.capacity.seats + 1) 0 taken.0 taken.1 taken.2 taken.3 }
+    requires opened { (hub : ℕ) → F.opened_of hub ≡ opened_view (arc_value stock.now.accepted.now) (records_at stock.now.choice.now hub stock.now.records.now) }
+    ensures seats { IfOk result (λ r. (r.opened0.passes.left ≡ stock.now.capacity.seats) × (r.opened1.passes.left ≡ stock.now.capacity.seats) × (r.opened2.passes.left ≡ stock.now.capacity.seats) × (r.opened3.passes.left ≡ stock.now.capacity.seats)) }
+    ensures err { IfErr result (λ fault. fault ≡ OutOfMemory) }
+{
+    let opened0 = open(stock, 0, begun.0, taken.0)?;
+    let opened1 = open(stock, 1, begun.1, taken.1)?;
+    let opened2 = open(stock, 2, begun.2, taken.2)?;
+    let opened3 = open(stock, 3, begun.3, taken.3)?;
+    Ok(FirstHubs {
+        opened0,
+        opened1,
+        opened2,
+        opened3,
+    })
+}
+
+/// The hubs 4 to 7 with their records.
+fn open_last<F: HubNames, G: Names>(
+    stock: &Stock<'_>,
+    begun: (Blank, Blank, Blank, Blank),
+    taken: (Blank, Blank, Blank, Blank),
+) -> Result<LastHubs<F, G>, CoreFault>
+    requires begun { OpenFour F.name_of F.parts_of (stock.now.capacity.seats + 1) 4 begun.0 begun.1 begun.2 begun.3 }
+    requires taken { OpenFour G.name_of G.parts_of (stock.now.capacity.seats + 1) 4 taken.0 taken.1 taken.2 taken.3 }
+    requires opened { (hub : ℕ) → F.opened_of hub ≡ opened_view (arc_value stock.now.accepted.now) (records_at stock.now.choice.now hub stock.now.records.now) }
+    ensures seats { IfOk result (λ r. (r.opened4.passes.left ≡ stock.now.capacity.seats) × (r.opened5.passes.left ≡ stock.now.capacity.seats) × (r.opened6.passes.left ≡ stock.now.capacity.seats) × (r.opened7.passes.left ≡ stock.now.capacity.seats)) }
+    ensures err { IfErr result (λ fault. fault ≡ OutOfMemory) }
+{
+    let opened4 = open(stock, 4, begun.0, taken.0)?;
+    let opened5 = open(stock, 5, begun.1, taken.1)?;
+    let opened6 = open(stock, 6, begun.2, taken.2)?;
+    let opened7 = open(stock, 7, begun.3, taken.3)?;
+    Ok(LastHubs {
+        opened4,
+        opened5,
+        opened6,
+        opened7,
+    })
+}
+
+/// All eight hubs, and what makes their passes and seats.
+fn joined<F: HubNames, G: Names>(
+    choice: HubChoice,
+    first: FirstHubs<F, G>,
+    last: LastHubs<F, G>,
+) -> (Hubs<F, G>, HubPasses<F, G>)
+    requires first { (first.opened1.passes.left ≡ first.opened0.passes.left) × (first.opened2.passes.left ≡ first.opened0.passes.left) × (first.opened3.passes.left ≡ first.opened0.passes.left) }
+    requires last { (last.opened4.passes.left ≡ first.opened0.passes.left) × (last.opened5.passes.left ≡ first.opened0.passes.left) × (last.opened6.passes.left ≡ first.opened0.passes.left) × (last.opened7.passes.left ≡ first.opened0.passes.left) }
+    ensures choice { result.0.choice ≡ choice }
+    ensures seats { result.1 ≡ first.opened0.passes.left }
+{
+    let hubs = Hubs {
+        choice,
+        hub0: first.opened0.hub,
+        hub1: first.opened1.hub,
+        hub2: first.opened2.hub,
+        hub3: first.opened3.hub,
+        hub4: last.opened4.hub,
+        hub5: last.opened5.hub,
+        hub6: last.opened6.hub,
+        hub7: last.opened7.hub,
+    };
+    let passes = HubPasses {
+        passes0: first.opened0.passes,
+        passes1: first.opened1.passes,
+        passes2: first.opened2.passes,
+        passes3: first.opened3.passes,
+        passes4: last.opened4.passes,
+        passes5: last.opened5.passes,
+        passes6: last.opened6.passes,
+        passes7: last.opened7.passes,
+    };
+    (hubs, passes)
 }
 
 impl<F: HubNames, G: Names> Hubs<F, G> {
@@ -106,36 +215,17 @@ impl<F: HubNames, G: Names> Hubs<F, G> {
             records,
             capacity,
         };
-        let (hub0, passes0) = open(&stock, 0, begun.blank0, taken.blank0)?;
-        let (hub1, passes1) = open(&stock, 1, begun.blank1, taken.blank1)?;
-        let (hub2, passes2) = open(&stock, 2, begun.blank2, taken.blank2)?;
-        let (hub3, passes3) = open(&stock, 3, begun.blank3, taken.blank3)?;
-        let (hub4, passes4) = open(&stock, 4, begun.blank4, taken.blank4)?;
-        let (hub5, passes5) = open(&stock, 5, begun.blank5, taken.blank5)?;
-        let (hub6, passes6) = open(&stock, 6, begun.blank6, taken.blank6)?;
-        let (hub7, passes7) = open(&stock, 7, begun.blank7, taken.blank7)?;
-        let hubs = Hubs {
-            choice,
-            hub0,
-            hub1,
-            hub2,
-            hub3,
-            hub4,
-            hub5,
-            hub6,
-            hub7,
-        };
-        let passes = HubPasses {
-            passes0,
-            passes1,
-            passes2,
-            passes3,
-            passes4,
-            passes5,
-            passes6,
-            passes7,
-        };
-        Ok((hubs, passes))
+        let first = open_first(
+            &stock,
+            (begun.blank0, begun.blank1, begun.blank2, begun.blank3),
+            (taken.blank0, taken.blank1, taken.blank2, taken.blank3),
+        )?;
+        let last = open_last(
+            &stock,
+            (begun.blank4, begun.blank5, begun.blank6, begun.blank7),
+            (taken.blank4, taken.blank5, taken.blank6, taken.blank7),
+        )?;
+        Ok(joined(choice, first, last))
     }
 
     /// Begins a call for one key of the request, counted from 0, at the hub of that key. Where that hub's next chapter is due
