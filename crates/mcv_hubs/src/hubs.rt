@@ -165,26 +165,38 @@ fn joined<F: HubNames, G: Names>(
     ensures choice { result.0.choice ≡ choice }
     ensures seats { result.1 ≡ first.opened0.passes.left }
 {
+    let FirstHubs {
+        opened0,
+        opened1,
+        opened2,
+        opened3,
+    } = first;
+    let LastHubs {
+        opened4,
+        opened5,
+        opened6,
+        opened7,
+    } = last;
     let hubs = Hubs {
         choice,
-        hub0: first.opened0.hub,
-        hub1: first.opened1.hub,
-        hub2: first.opened2.hub,
-        hub3: first.opened3.hub,
-        hub4: last.opened4.hub,
-        hub5: last.opened5.hub,
-        hub6: last.opened6.hub,
-        hub7: last.opened7.hub,
+        hub0: opened0.hub,
+        hub1: opened1.hub,
+        hub2: opened2.hub,
+        hub3: opened3.hub,
+        hub4: opened4.hub,
+        hub5: opened5.hub,
+        hub6: opened6.hub,
+        hub7: opened7.hub,
     };
     let passes = HubPasses {
-        passes0: first.opened0.passes,
-        passes1: first.opened1.passes,
-        passes2: first.opened2.passes,
-        passes3: first.opened3.passes,
-        passes4: last.opened4.passes,
-        passes5: last.opened5.passes,
-        passes6: last.opened6.passes,
-        passes7: last.opened7.passes,
+        passes0: opened0.passes,
+        passes1: opened1.passes,
+        passes2: opened2.passes,
+        passes3: opened3.passes,
+        passes4: opened4.passes,
+        passes5: opened5.passes,
+        passes6: opened6.passes,
+        passes7: opened7.passes,
     };
     (hubs, passes)
 }
