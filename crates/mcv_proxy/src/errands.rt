@@ -42,8 +42,6 @@ pub(crate) struct Errands<'a, B: HubLedger, T: Ledger, L: Link> {
     has_lost: bool,
     /// A server that is marked since the last notice.
     marked: Option<ServerId>,
-    /// From how many entries on a chapter ends once nothing is left of it.
-    pub(crate) turn_from: usize,
 }
 
 /// Goes on with a leg in flight that the link of its server began; without a link the flight is given back.
@@ -96,8 +94,8 @@ fn await_turn<B: HubLedger, T: Ledger, R: Wait>(
 }
 
 impl<'a, B: HubLedger, T: Ledger, L: Link> Errands<'a, B, T, L> {
-    /// Nothing to be sent, and chapters that end from so many entries on. It takes no memory.
-    pub(crate) fn new(alloc: Global, hub: &'a Hub<B, T>, turn_from: usize) -> Errands<'a, B, T, L> {
+    /// Nothing to be sent. It takes no memory.
+    pub(crate) fn new(alloc: Global, hub: &'a Hub<B, T>) -> Errands<'a, B, T, L> {
         Errands {
             agenda: Agenda::new(alloc, hub),
             flight: None,
@@ -105,7 +103,6 @@ impl<'a, B: HubLedger, T: Ledger, L: Link> Errands<'a, B, T, L> {
             late: Vec::new(alloc),
             has_lost: false,
             marked: None,
-            turn_from,
         }
     }
 
@@ -314,9 +311,9 @@ impl<'a, B: HubLedger, T: Ledger, L: Link> Errands<'a, B, T, L> {
         }
     }
 
-    /// Rings all bells, and notes the server that is marked since the last time.
+    /// Rings all bells, drops what is left of an old chapter, and notes the server that is marked since the last time.
     pub(crate) fn finish<R: Wait>(&mut self, rt: &R, links: &Links<L>, pass: &Pass) {
-        self.agenda.ring_all();
+        self.agenda.finish();
         if let Some(server) = self.marked.take() {
             links.note_marked(rt, pass, server);
         }

@@ -1,0 +1,4 @@
+pub mod Desks
+pub mod Pending
+pub mod Reports
+pub mod Room

@@ -1,0 +1,5 @@
+mod Examples
+mod Keys
+mod Counting
+mod Closing
+pub mod Crossing
