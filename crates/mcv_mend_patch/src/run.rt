@@ -68,8 +68,8 @@ fn patch_of(alloc: Global, input: &[u8], output: &Output) -> Result<Vec<u8>, All
 
 /// The patch that makes the mended text of the input.
 fn patch_between(alloc: Global, input: &[u8], mended: &[u8]) -> Result<Vec<u8>, AllocError>
-    requires old { HasDocument input.now }
-    requires new { HasDocument mended.now }
+    requires reads { HasDocument input.now }
+    requires mends { HasDocument mended.now }
     ensures { IfOk result (λ text. IsPatchBetween input.now mended.now text.items) }
 {
     let old = document_of(alloc, input)?;
@@ -79,7 +79,7 @@ fn patch_between(alloc: Global, input: &[u8], mended: &[u8]) -> Result<Vec<u8>, 
 /// The patch that makes a text's value of this one.
 fn patch_to(alloc: Global, old: &Value, mended: &[u8]) -> Result<Vec<u8>, AllocError>
     requires shallow { depth (view old.now) ≤ max_depth }
-    requires new { HasDocument mended.now }
+    requires mends { HasDocument mended.now }
     ensures { IfOk result (λ text. (new : Data) × IsDocument mended.now new × IsPatchFrom (view old.now) new text.items) }
 {
     let value = document_of(alloc, mended)?;

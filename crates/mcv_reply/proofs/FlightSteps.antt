@@ -1,5 +1,5 @@
 -- Steps of the oldest leg's reply.
-use Rattle.std.proofs.Common.{◌≡◌, ◌≢◌, ◌⊎◌, inl, inr, ℕ, ◌<◌, Bool, true, false, List, [], ◌∷◌, ◌++◌, length, get_or, take, drop, map, refl, sym, ap, subst, ◌∙◌, arith, append_assoc, length-append, Option, Some, None, Result, Ok, Err, OnOk, OnErr, if◌then◌else◌}
+use Rattle.std.proofs.Common.{◌≡◌, ◌≢◌, ◌⊎◌, inl, inr, ℕ, ◌<◌, Bool, true, false, not, List, [], ◌∷◌, ◌++◌, length, get_or, take, drop, map, refl, sym, ap, subst, ◌∙◌, arith, append_assoc, length-append, Option, Some, None, Result, Ok, Err, OnOk, OnErr, if◌then◌else◌}
 use Rattle.std.specs.Option.{option_to_list}
 use Rattle.std.proofs.lemmas.List.{append-nil, map-append, nil_from_length, take-append-drop}
 use Rattle.std.proofs.lemmas.List.Elements.{All-head, All-tail, All-nil, All-cons, All-append}
@@ -40,6 +40,11 @@ fed_open stages.Return p bytes e = (refl, cc)
 fed_open stages.Last p bytes e = (refl, cc)
 fed_open stages.Answered p bytes e = absurd (cc)
 fed_open stages.Closed p bytes e = absurd (cc)
+
+-- a connection is open until nothing is read any more
+pub open_is : (over : Bool) (legs : List Leg) (held : List ℕ) → replies.is_open (if over then replies.Closed else replies.Open legs held) ≡ not over
+open_is true legs held = refl
+open_is false legs held = refl
 
 -- of a value some has come
 not_none : (front back : List ℕ) (byte : ℕ) → (front ++ byte ∷ back) ≢ []

@@ -1,5 +1,5 @@
 -- The replies of one connection. A server answers the requests of a connection one after the other, so the first reply that comes is the oldest leg's.
-use Rattle.std.specs.Prelude.{◌≡◌, ◌≢◌, ℕ, List, [], ◌∷◌, ◌++◌, length, true, All, Result, Ok, Err}
+use Rattle.std.specs.Prelude.{◌≡◌, ◌≢◌, ℕ, List, [], ◌∷◌, ◌++◌, length, Bool, true, false, All, Result, Ok, Err}
 use Rattle.mcv_base.specs.declared.operation.Op.{Op}
 use Rattle.mcv_base.specs.Key.{is_key_word}
 use Rattle.mcv_base.specs.Reply.{ReplyValue}
@@ -17,6 +17,11 @@ pub record Leg : Type 0 where
 pub data Connection : Type 0 where
   Open : (legs : List Leg) → (held : List ℕ) → Connection
   Closed : Connection
+
+-- replies are read
+abbrev pub is_open : Connection → Bool
+is_open (Open legs held) = true
+is_open Closed = false
 
 -- how many legs are in flight
 abbrev pub flying : Connection → ℕ

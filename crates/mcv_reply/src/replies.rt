@@ -4,7 +4,7 @@ ghost use Rattle.std.specs.Prelude.{◌≡◌, ◌<◌, ◌++◌, ◌↔◌, [],
 ghost use Rattle.std.specs.Arc.{arc_value};
 ghost use Rattle.std.specs.Option.{option_to_list};
 ghost use Rattle.mcv_base.specs.Reply.{reply_value};
-ghost use Rattle.mcv_reply.specs.Replies.{Open, HasBegun, HaveKeys, Receives, Sends, flying};
+ghost use Rattle.mcv_reply.specs.Replies.{Open, Closed, HasBegun, HaveKeys, Receives, Sends, flying, is_open};
 ghost use Rattle.mcv_reply.specs.Flight.{IsFlight, Leads, OldestSteps, ReadsReplies, held_in};
 
 use crate::fault::ReplyFault;
@@ -166,6 +166,21 @@ impl Replies {
                 Err(fault)
             }
         }
+    }
+
+    /// The connection is lost, and the legs in flight with it.
+    pub fn close(&mut self)
+        ensures { self.new ≡ Closed }
+    {
+        self.progress.stage = Stage::Closed;
+    }
+
+    /// Whether it reads on: no fault has been answered, and the connection wasn't lost.
+    #[tactic(auto, using(crate::proofs::FlightSteps::open_is))]
+    pub fn is_open(&self) -> bool
+        ensures { result ≡ is_open self.now }
+    {
+        !self.progress.stage.is_over()
     }
 
     /// How many legs are in flight; none once it is closed.

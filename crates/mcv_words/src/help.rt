@@ -187,10 +187,11 @@ What is written is what was read, with insertions: comments, order and spaces
 stay. Legs are added and none is taken away; only deletes are sent otherwise
 than before. The legs that keys of one class get are the least: with any of them
 left out, a server could be read that misses a delete. A configuration that is
-covered is written byte for byte. With `--patch` standard output has a JSON patch
-in a line, of one operation, or of none where the configuration is covered; it
-makes the same of the configuration without its comments. As with `mcv check` without `--window`, a read
-and a delete are judged at one stage of each migration.
+covered is written byte for byte. With `--patch` standard output has a JSON
+patch in a line, of one operation, or of none where the configuration is
+covered; it makes the same of the configuration without its comments. As with
+`mcv check` without `--window`, a read and a delete are judged at one stage of
+each migration.
 
 Exit status:
   0  written, or help was asked for

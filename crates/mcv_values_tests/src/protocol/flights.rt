@@ -181,6 +181,19 @@ fn a_leg_is_sent_behind_a_piece(rt: HostRuntime) {
     check_replies(&rt, given.as_slice(), "hit miss");
 }
 
+#[test]
+fn a_lost_connection_reads_nothing(rt: HostRuntime) {
+    let mut replies = connection(&rt, "get:a get:b");
+    let mut given = Vec::new(rt.alloc());
+    check(&rt, replies.is_open(), "open");
+    replies.close();
+    check(&rt, !replies.is_open(), "lost");
+    check(&rt, replies.in_flight() == 0, "no leg is in flight");
+    let found = fed(&mut replies, b"END\r\n", &mut given);
+    check(&rt, found == "closed", "closed");
+    check_replies(&rt, given.as_slice(), "");
+}
+
 /// A hit comes. Each allocation may fail here: then no reply is given, and the connection is closed.
 fn check_given_or_closed(rt: &impl Abort, replies: &mut Replies, given: &mut Vec<Reply>) {
     let found = fed(replies, b"VALUE a 0 1\r\nx\r\nEND\r\n", given);

@@ -236,11 +236,7 @@ fn versions(rt: &(impl AllocGlobal + Abort), count: usize) -> Machine {
     for _line in 0..count {
         check(rt, session.feed(b"version\r\n").is_ok(), "a line");
     }
-    check(
-        rt,
-        matches!(session.next_request(), Ok(None)),
-        "no request",
-    );
+    check(rt, matches!(session.next_request(), Ok(None)), "no request");
     session
 }
 

@@ -14,13 +14,13 @@ returns-in-Unchanged c =
     (λ text written. of_covered c.args.input.now output.text.items output.mending text.items c.in-Unchanged.is c.requires written)
     (c.patch_text.ensures.none refl)
 
-pub patch_between-requires-clause-old : goal.patch_between-requires-clause-old
-patch_between-requires-clause-old c =
+pub patch_between-requires-clause-reads : goal.patch_between-requires-clause-reads
+patch_between-requires-clause-reads c =
     let output = c.args.output.now in
     input_document c.args.input.now output.text.items (subst (λ (m : Mending). IsMendingOn c.args.input.now m output.text.items) c.in-Mended.is c.requires)
 
-pub patch_between-requires-clause-new : goal.patch_between-requires-clause-new
-patch_between-requires-clause-new c =
+pub patch_between-requires-clause-mends : goal.patch_between-requires-clause-mends
+patch_between-requires-clause-mends c =
     let output = c.args.output.now in
     subst HasDocument (sym c.as_slice.ensures.value)
     (mended_document c.args.input.now output.text.items (subst (λ (m : Mending). IsMendingOn c.args.input.now m output.text.items) c.in-Mended.is c.requires))
