@@ -2,4 +2,5 @@ mod Examples
 mod Keys
 mod Counting
 mod Closing
+mod Opening
 pub mod Crossing
