@@ -539,8 +539,10 @@ impl<'a, B: HubLedger, T: Ledger, L: Link, W: Watch, R: Wait + Clock> Caller<'a,
             self.errands
                 .carry(self.rt, self.alloc, self.links, &self.pass);
             progress = self.round(calls, progress, taken);
+            self.errands
+                .note_marked(self.rt, self.links, &self.pass);
         }
-        self.errands.finish(self.rt, self.links, &self.pass);
+        self.errands.finish();
         match progress.missed {
             Some(fault) => Err(fault),
             None => Ok(()),

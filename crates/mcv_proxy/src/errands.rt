@@ -40,7 +40,7 @@ pub(crate) struct Errands<'a, B: HubLedger, T: Ledger, L: Link> {
     late: Vec<Due>,
     /// A leg was lost without being sent, so that replies may be there.
     has_lost: bool,
-    /// A server that is marked since the last notice.
+    /// The server that the last leg marked as it landed, until that is noted.
     marked: Option<ServerId>,
 }
 
@@ -311,11 +311,17 @@ impl<'a, B: HubLedger, T: Ledger, L: Link> Errands<'a, B, T, L> {
         }
     }
 
-    /// Rings all bells, drops what is left of an old chapter, and notes the server that is marked since the last time.
-    pub(crate) fn finish<R: Wait>(&mut self, rt: &R, links: &Links<L>, pass: &Pass) {
-        self.agenda.finish();
+    /// Notes the server that the leg which landed has marked, if it has. Whoever is to be woken is before, since the line may
+    /// take long.
+    pub(crate) fn note_marked<R: Wait>(&mut self, rt: &R, links: &Links<L>, pass: &Pass) {
         if let Some(server) = self.marked.take() {
+            self.agenda.ring_all();
             links.note_marked(rt, pass, server);
         }
+    }
+
+    /// Rings all bells, and drops what is left of an old chapter.
+    pub(crate) fn finish(&mut self) {
+        self.agenda.finish();
     }
 }
