@@ -14,7 +14,7 @@ use crate::receipts::Receipts;
 use mcv_base::{CallId, Moment, Part, Request, key_words_have_one_reading};
 use mcv_core::CoreFault;
 use mcv_hub::{Pass, Receipt, TakenReply};
-use mcv_hubs::{At, HubCall, HubChoice, HubNames, HubPasses, Names, Seats};
+use mcv_hubs::{At, HubCall, HubChoice, HubNames, HubPasses, MOST_HUBS, Names, Seats};
 use mcv_proxy::{HubDesk, Link, Watch, fault_for, into_parts, key_count};
 use mcv_session::{Desk, DeskFault};
 use mcv_spool::Disk;
@@ -295,6 +295,34 @@ impl<'a, F: HubNames, G: Names, L: Link, W: Watch, R: Wait + Clock> HubsDesk<'a,
         }
     }
 
+    /// Waits until calls may begin at the hub of this number, where its next chapter is due.
+    fn enter_at(&mut self, hub: usize)
+        requires { hub < 8 }
+    {
+        match hub {
+            0 => self.desk0.enter(),
+            1 => self.desk1.enter(),
+            2 => self.desk2.enter(),
+            3 => self.desk3.enter(),
+            4 => self.desk4.enter(),
+            5 => self.desk5.enter(),
+            6 => self.desk6.enter(),
+            _ => self.desk7.enter(),
+        }
+    }
+
+    /// Waits until calls may begin at the hubs of all keys of a request, before one of its own runs.
+    fn enter_each(&mut self, choice: &HubChoice, request: &Request) {
+        let mut entered = [false; MOST_HUBS];
+        for key in 0..key_count(request) {
+            let hub = choice.hub_of_key(request, key);
+            if !entered[hub] {
+                entered[hub] = true;
+                self.enter_at(hub);
+            }
+        }
+    }
+
     /// Begins a call for one key of a request at the hub of this number.
     fn begin_at(
         &mut self,
@@ -410,7 +438,8 @@ impl<'a, F: HubNames, G: Names, L: Link, W: Watch, R: Wait + Clock> HubsDesk<'a,
     }
 
     /// A reply for each key of a request, in the order of the keys; all calls are begun before the first reply is waited for.
-    /// Their receipts are kept.
+    /// Their receipts are kept. It waits at all its hubs before it begins a call, so that a chapter which is due can end while
+    /// such requests come.
     fn take_replies(
         &mut self,
         moment: Moment,
@@ -431,6 +460,7 @@ impl<'a, F: HubNames, G: Names, L: Link, W: Watch, R: Wait + Clock> HubsDesk<'a,
         } = room;
         let choice = self.choice;
         let words: &Request = request;
+        self.enter_each(choice, words);
         let begun = self.begin_each(choice, moment, request, calls);
         let outcome = self.take_each(choice, words, calls.as_slice(), one, taken);
         self.mixed.keep_those_of(taken.as_slice());

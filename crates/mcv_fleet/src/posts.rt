@@ -1,5 +1,7 @@
 //! What the threads of each hub share beside it.
 
+ghost use Rattle.std.specs.Prelude.{◌<◌};
+
 use crossbeam_channel::Sender;
 use mcv_base::ServerId;
 use mcv_check::Accepted;
@@ -87,6 +89,51 @@ fn post_of<G: Gates>(
     })
 }
 
+/// The posts of four hubs.
+#[derive(Drop)]
+struct FourPosts<L: Link> {
+    one: Post<L>,
+    two: Post<L>,
+    three: Post<L>,
+    four: Post<L>,
+}
+
+/// The posts of the hub of this number and of the three next ones, where so many have keys.
+fn four_posts<G: Gates>(
+    alloc: Global,
+    accepted: &Accepted,
+    gates: &mut G,
+    hubs: usize,
+    hub: usize,
+) -> Result<FourPosts<G::Link>, AllocError>
+    requires { hub < 8 }
+{
+    let one = post_of(alloc, accepted, gates, hubs, hub)?;
+    let two = post_of(alloc, accepted, gates, hubs, hub + 1)?;
+    let three = post_of(alloc, accepted, gates, hubs, hub + 2)?;
+    let four = post_of(alloc, accepted, gates, hubs, hub + 3)?;
+    Ok(FourPosts {
+        one,
+        two,
+        three,
+        four,
+    })
+}
+
+/// The posts of all eight hubs.
+fn joined<L: Link>(first: FourPosts<L>, last: FourPosts<L>) -> Posts<L> {
+    Posts {
+        post0: first.one,
+        post1: first.two,
+        post2: first.three,
+        post3: first.four,
+        post4: last.one,
+        post5: last.two,
+        post6: last.three,
+        post7: last.four,
+    }
+}
+
 /// The posts of eight hubs, so many of which have keys.
 pub(crate) fn posts_of<G: Gates>(
     alloc: Global,
@@ -94,14 +141,7 @@ pub(crate) fn posts_of<G: Gates>(
     gates: &mut G,
     hubs: usize,
 ) -> Result<Posts<G::Link>, AllocError> {
-    Ok(Posts {
-        post0: post_of(alloc, accepted, gates, hubs, 0)?,
-        post1: post_of(alloc, accepted, gates, hubs, 1)?,
-        post2: post_of(alloc, accepted, gates, hubs, 2)?,
-        post3: post_of(alloc, accepted, gates, hubs, 3)?,
-        post4: post_of(alloc, accepted, gates, hubs, 4)?,
-        post5: post_of(alloc, accepted, gates, hubs, 5)?,
-        post6: post_of(alloc, accepted, gates, hubs, 6)?,
-        post7: post_of(alloc, accepted, gates, hubs, 7)?,
-    })
+    let first = four_posts(alloc, accepted, gates, hubs, 0)?;
+    let last = four_posts(alloc, accepted, gates, hubs, 4)?;
+    Ok(joined(first, last))
 }

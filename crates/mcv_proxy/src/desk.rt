@@ -188,8 +188,24 @@ fn are_for(routes: &Routes, request: &Request, taken: &[TakenReply]) -> bool
     true
 }
 
-/// Begins a call for one key of a request. Where the next chapter is due the first key waits for it, and begins in the old one
-/// where that takes too long; for another key the request's own calls run, so it doesn't wait.
+/// Waits until calls may begin, where the next chapter is due; not for ever, so that they begin in the old one where that takes
+/// too long. The session's own calls at this hub must not run.
+fn enter<'a, B: HubLedger, T: Ledger, R: Wait + Clock>(
+    rt: &R,
+    alloc: Global,
+    hub: &Hub<B, T>,
+    guard: Guard<'a, B, T>,
+    agenda: &mut Agenda<'_, B, T>,
+) -> Guard<'a, B, T> {
+    let (guard, gate) = hub.enter(rt, alloc, guard, Duration::from_millis(PATIENCE));
+    if let Gate::Turned(past) = gate {
+        agenda.note_turned(past);
+    }
+    guard
+}
+
+/// Begins a call for one key of a request. The first key waits for the next chapter where that is due; for another key the
+/// request's own calls run, so it doesn't.
 fn begin_in_chapter<'a, B: HubLedger, T: Ledger, R: Wait + Clock>(
     rt: &R,
     alloc: Global,
@@ -208,11 +224,7 @@ fn begin_in_chapter<'a, B: HubLedger, T: Ledger, R: Wait + Clock>(
 {
     let mut guard = guard;
     if key == 0 {
-        let (entered, gate) = hub.enter(rt, alloc, guard, Duration::from_millis(PATIENCE));
-        guard = entered;
-        if let Gate::Turned(past) = gate {
-            agenda.note_turned(past);
-        }
+        guard = enter(rt, alloc, hub, guard, agenda);
     }
     let begun = events::begin_in_turn(alloc, agenda, &mut guard, seat, request, key);
     (guard, begun)
@@ -463,6 +475,15 @@ impl<'a, B: HubLedger, T: Ledger, L: Link, W: Watch, R: Wait + Clock> Caller<'a,
         begun
     }
 
+    /// Waits until calls may begin, where the next chapter is due.
+    fn enter(&mut self) {
+        let (rt, alloc, hub) = (self.rt, self.alloc, self.hub);
+        let guard = hub.lock(rt, &mut self.pass);
+        let guard = enter(rt, alloc, hub, guard, &mut self.errands.agenda);
+        drop(guard);
+        self.errands.agenda.finish();
+    }
+
     /// Begins a call for one key of a request at this moment, and leaves its legs to the workers of their servers.
     fn begin_one(
         &mut self,
@@ -539,8 +560,7 @@ impl<'a, B: HubLedger, T: Ledger, L: Link, W: Watch, R: Wait + Clock> Caller<'a,
             self.errands
                 .carry(self.rt, self.alloc, self.links, &self.pass);
             progress = self.round(calls, progress, taken);
-            self.errands
-                .note_marked(self.rt, self.links, &self.pass);
+            self.errands.note_marked(self.rt, self.links, &self.pass);
         }
         self.errands.finish();
         match progress.missed {
@@ -698,6 +718,12 @@ impl<'a, B: HubLedger, T: Ledger, L: Link, R: Wait + Clock> HubDesk<'a, B, T, L,
     {
         self.caller.watch = moment;
         self.ask(request)
+    }
+
+    /// Waits until calls may begin, where the hub's next chapter is due (`Hub::enter`): before calls for keys of several hubs, since
+    /// none of them waits once another one runs.
+    pub fn enter(&mut self) {
+        self.caller.enter()
     }
 
     /// Begins a call for one key of a request, counted from 0, at this moment. Its reply is to be taken by `take_for`, or the
