@@ -103,8 +103,13 @@ module _ (opened_of : ℕ → CoreView) (hubs hub : ℕ) (request : RequestValue
 
 -- ---- calls at several hubs, and their replies
 
+-- nothing is in an empty list
+pub no_item : {X Z : Type 0} (xs : List X) (k : ℕ) (x : X) → xs ≡ [] → slice_get xs k ≡ Some x → Z
+no_item [] k x e there = no_some there
+no_item (y ∷ ys) k x e there = cc
+
 -- one more, at the end
-at_push : {X : Type 0} (P : ℕ → X → Type 0) (xs : List X) (n : ℕ) (x : X) → length xs ≡ n → ((k : ℕ) (y : X) → slice_get xs k ≡ Some y → P k y) → P n x → (k : ℕ) (y : X) → slice_get (xs ++ x ∷ []) k ≡ Some y → P k y
+pub at_push : {X : Type 0} (P : ℕ → X → Type 0) (xs : List X) (n : ℕ) (x : X) → length xs ≡ n → ((k : ℕ) (y : X) → slice_get xs k ≡ Some y → P k y) → P n x → (k : ℕ) (y : X) → slice_get (xs ++ x ∷ []) k ≡ Some y → P k y
 at_push P [] n x len all here zero y e = let at : P zero x = subst (λ m. P m x) (sym len) here in subst (P zero) (same_some e) at
 at_push P [] n x len all here (suc k) y e = no_some e
 at_push P (z ∷ zs) n x len all here zero y e = all zero y e

@@ -9,6 +9,7 @@ use Rattle.mcv_core.specs.declared.fault.CoreFault.{CoreFault}
 use Rattle.mcv_hub.specs.declared.seat.TakenReply.{TakenReply}
 use Rattle.mcv_hubs.specs.Choice.{IsHubOf, hub_number}
 use Rattle.mcv_hubs.specs.declared.hubs.HubCall.{HubCall}
+use Rattle.mcv_fleet.specs.OneKey.{only_key}
 use Rattle.mcv_proxy.specs.Desk.{IsFor, IsUntaken, WasAsked, WasBegun, WasRefused, WasTaken, desk_fault}
 use Rattle.mcv_route.specs.Routes.{RoutesValue}
 use Rattle.mcv_session.specs.Desk.{keys_of}
@@ -49,11 +50,11 @@ pub record RefusedByHub (opened_of : ℕ → CoreView) (hubs : ℕ) (request : R
 
 -- ---- keys of several hubs
 
--- a call was begun for the key of this number, at its hub
+-- a call was begun for the key of this number alone, at its hub
 pub record IsBegunAt (opened_of : ℕ → CoreView) (hubs : ℕ) (request : Request) (key : ℕ) (c : HubCall) : Type 0 where
   pub there : c.hub < hubs
   pub of_key : IsHubOf hubs request key c.hub
-  pub was : WasBegun (opened_of c.hub) (request_value request) key c.call
+  pub was : WasBegun (opened_of c.hub) (only_key (request_value request) key) 0 c.call
 
 -- these calls were, for the first keys, in their order
 abbrev pub AreBegunAt : (opened_of : ℕ → CoreView) (hubs : ℕ) → Request → List HubCall → Type 0
@@ -61,8 +62,8 @@ AreBegunAt opened_of hubs request calls = (key : ℕ) (c : HubCall) → slice_ge
 
 -- why the hub has no reply for the key of this number: it began no call for it, or the call that it began has none
 pub data HasNoReply (opened : CoreView) (request : RequestValue) (key : ℕ) (fault : CoreFault) : Type 0 where
-  unbegun : WasRefused opened request key fault → HasNoReply opened request key fault
-  untaken : (call : CallId) → WasBegun opened request key call → IsUntaken opened request key call fault → HasNoReply opened request key fault
+  unbegun : WasRefused opened (only_key request key) 0 fault → HasNoReply opened request key fault
+  untaken : (call : CallId) → WasBegun opened (only_key request key) 0 call → IsUntaken opened request key call fault → HasNoReply opened request key fault
 
 -- there is no reply for some key, at the hub of that
 pub record IsKeyRefused (opened_of : ℕ → CoreView) (hubs : ℕ) (request : Request) (fault : CoreFault) : Type 0 where

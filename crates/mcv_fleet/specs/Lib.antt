@@ -1,3 +1,4 @@
+pub mod OneKey
 pub mod Desks
 pub mod Pending
 pub mod Reports

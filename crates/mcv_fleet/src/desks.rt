@@ -3,12 +3,14 @@
 ghost use Rattle.std.specs.Prelude.{◌≡◌, ◌<◌, ◌≤◌, [], IfErr, IfOk, OnOk, length, vec_capacity, vec_len};
 ghost use Rattle.std.specs.Arc.{arc_value};
 ghost use Rattle.mcv_fleet.specs.Desks.{AreBegunAt, AreForKeys, AsksHubs, IsKeyRefused};
+ghost use Rattle.mcv_fleet.specs.OneKey.{AreOfKeys};
 ghost use Rattle.mcv_fleet.specs.Room.{IsRoomFor};
 ghost use Rattle.mcv_proxy.specs.Desk.{IsReplyFor, IsUntaken, WasAsked, WasBegun, WasRefused};
 ghost use Rattle.mcv_session.specs.Desk.{HasOneEach, answer_value, keys_of};
 ghost use Rattle.mcv_text.specs.Request.{request_value};
 
 use crate::choice::one_hub;
+use crate::one_key::requests_of_keys;
 use crate::posts::Shared;
 use crate::receipts::Receipts;
 use mcv_base::{CallId, Moment, Part, Request, key_words_have_one_reading};
@@ -323,27 +325,26 @@ impl<'a, F: HubNames, G: Names, L: Link, W: Watch, R: Wait + Clock> HubsDesk<'a,
         }
     }
 
-    /// Begins a call for one key of a request at the hub of this number.
+    /// Begins a call for the first key of a request at the hub of this number.
     fn begin_at(
         &mut self,
         hub: usize,
         moment: Moment,
         request: &Arc<Request>,
-        key: usize,
     ) -> Result<CallId, CoreFault>
         requires { hub < 8 }
-        ensures began { IfOk result (WasBegun (F.opened_of hub) (request_value (arc_value request.now)) key) }
-        ensures err { IfErr result (WasRefused (F.opened_of hub) (request_value (arc_value request.now)) key) }
+        ensures began { IfOk result (WasBegun (F.opened_of hub) (request_value (arc_value request.now)) 0) }
+        ensures err { IfErr result (WasRefused (F.opened_of hub) (request_value (arc_value request.now)) 0) }
     {
         match hub {
-            0 => self.desk0.begin_for(moment, request, key),
-            1 => self.desk1.begin_for(moment, request, key),
-            2 => self.desk2.begin_for(moment, request, key),
-            3 => self.desk3.begin_for(moment, request, key),
-            4 => self.desk4.begin_for(moment, request, key),
-            5 => self.desk5.begin_for(moment, request, key),
-            6 => self.desk6.begin_for(moment, request, key),
-            _ => self.desk7.begin_for(moment, request, key),
+            0 => self.desk0.begin_for(moment, request, 0),
+            1 => self.desk1.begin_for(moment, request, 0),
+            2 => self.desk2.begin_for(moment, request, 0),
+            3 => self.desk3.begin_for(moment, request, 0),
+            4 => self.desk4.begin_for(moment, request, 0),
+            5 => self.desk5.begin_for(moment, request, 0),
+            6 => self.desk6.begin_for(moment, request, 0),
+            _ => self.desk7.begin_for(moment, request, 0),
         }
     }
 
@@ -376,25 +377,27 @@ impl<'a, F: HubNames, G: Names, L: Link, W: Watch, R: Wait + Clock> HubsDesk<'a,
         }
     }
 
-    /// Begins a call for each key of a request at its hub, in the order of the keys, up to the first that is refused.
+    /// Begins a call for each key of a request at its hub, in the order of the keys, up to the first that is refused: each hub is asked
+    /// that key alone.
     fn begin_each(
         &mut self,
         choice: &HubChoice,
         moment: Moment,
-        request: &Arc<Request>,
+        request: &Request,
+        of_keys: &[Arc<Request>],
         calls: &mut Vec<HubCall>,
     ) -> Result<(), CoreFault>
+        requires of_keys { AreOfKeys (request_value request.now) of_keys.now }
         requires empty { calls.old.items ≡ [] }
-        requires room { length (keys_of (request_value (arc_value request.now))) ≤ vec_capacity calls.old }
-        ensures began { AreBegunAt F.opened_of choice.now (arc_value request.now) calls.new.items }
-        ensures all { OnOk result (vec_len calls.new ≡ length (keys_of (request_value (arc_value request.now)))) }
-        ensures most { vec_len calls.new ≤ length (keys_of (request_value (arc_value request.now))) }
-        ensures err { IfErr result (IsKeyRefused F.opened_of choice.now (arc_value request.now)) }
+        requires room { length of_keys.now ≤ vec_capacity calls.old }
+        ensures began { AreBegunAt F.opened_of choice.now request.now calls.new.items }
+        ensures all { OnOk result (vec_len calls.new ≡ length of_keys.now) }
+        ensures most { vec_len calls.new ≤ length of_keys.now }
+        ensures err { IfErr result (IsKeyRefused F.opened_of choice.now request.now) }
     {
-        let words: &Request = request;
-        for key in 0..key_count(words) {
-            let hub = choice.hub_of_key(words, key);
-            match self.begin_at(hub, moment, request, key) {
+        for key in 0..of_keys.len() {
+            let hub = choice.hub_of_key(request, key);
+            match self.begin_at(hub, moment, &of_keys[key]) {
                 Ok(call) => calls.push_reserved(HubCall { hub, call }),
                 Err(fault) => return Err(fault),
             }
@@ -443,14 +446,16 @@ impl<'a, F: HubNames, G: Names, L: Link, W: Watch, R: Wait + Clock> HubsDesk<'a,
     fn take_replies(
         &mut self,
         moment: Moment,
-        request: &Arc<Request>,
+        request: &Request,
+        of_keys: &[Arc<Request>],
         room: &mut Room,
     ) -> Result<(), CoreFault>
-        requires room { IsRoomFor (length (keys_of (request_value (arc_value request.now)))) room.old }
-        ensures taken { OnOk result (AreForKeys F.opened_of self.old.choice.now (request_value (arc_value request.now)) room.new.taken.items) }
-        ensures all { OnOk result (vec_len room.new.taken ≡ length (keys_of (request_value (arc_value request.now)))) }
+        requires of_keys { AreOfKeys (request_value request.now) of_keys.now }
+        requires room { IsRoomFor (length (keys_of (request_value request.now))) room.old }
+        ensures taken { OnOk result (AreForKeys F.opened_of self.old.choice.now (request_value request.now) room.new.taken.items) }
+        ensures all { OnOk result (vec_len room.new.taken ≡ length (keys_of (request_value request.now))) }
         ensures parts { (room.new.parts.items ≡ room.old.parts.items) × (vec_capacity room.new.parts ≡ vec_capacity room.old.parts) }
-        ensures err { IfErr result (IsKeyRefused F.opened_of self.old.choice.now (arc_value request.now)) }
+        ensures err { IfErr result (IsKeyRefused F.opened_of self.old.choice.now request.now) }
     {
         let Room {
             calls,
@@ -459,10 +464,9 @@ impl<'a, F: HubNames, G: Names, L: Link, W: Watch, R: Wait + Clock> HubsDesk<'a,
             ..
         } = room;
         let choice = self.choice;
-        let words: &Request = request;
-        self.enter_each(choice, words);
-        let begun = self.begin_each(choice, moment, request, calls);
-        let outcome = self.take_each(choice, words, calls.as_slice(), one, taken);
+        self.enter_each(choice, request);
+        let begun = self.begin_each(choice, moment, request, of_keys, calls);
+        let outcome = self.take_each(choice, request, calls.as_slice(), one, taken);
         self.mixed.keep_those_of(taken.as_slice());
         outcome?;
         begun
@@ -470,14 +474,17 @@ impl<'a, F: HubNames, G: Names, L: Link, W: Watch, R: Wait + Clock> HubsDesk<'a,
 
     /// Asks the hubs of the keys: a call for each key is begun at its hub, in the order of the keys, and the replies are taken in
     /// that order.
-    fn ask_each(&mut self, moment: Moment, request: &Arc<Request>) -> Result<Vec<Part>, DeskFault>
-        ensures asks { AsksHubs F.opened_of self.old.choice.now (request_value (arc_value request.now)) (answer_value result) }
-        ensures each { HasOneEach (request_value (arc_value request.now)) (answer_value result) }
+    fn ask_each(&mut self, moment: Moment, request: &Request) -> Result<Vec<Part>, DeskFault>
+        ensures asks { AsksHubs F.opened_of self.old.choice.now (request_value request.now) (answer_value result) }
+        ensures each { HasOneEach (request_value request.now) (answer_value result) }
     {
+        let Ok(of_keys) = requests_of_keys(self.alloc, request) else {
+            return Err(DeskFault::Memory);
+        };
         let Ok(mut room) = Room::new(self.alloc, key_count(request)) else {
             return Err(DeskFault::Memory);
         };
-        match self.take_replies(moment, request, &mut room) {
+        match self.take_replies(moment, request, of_keys.as_slice(), &mut room) {
             Ok(()) => {
                 let Room { taken, parts, .. } = room;
                 Ok(into_parts(taken, parts))
@@ -495,9 +502,10 @@ impl<'a, F: HubNames, G: Names, L: Link, W: Watch, R: Wait + Clock> Desk
 
     fn ask(&mut self, request: &Arc<Request>) -> Result<Vec<Part>, DeskFault> {
         let moment = self.watch.moment();
-        match one_hub(self.choice, request) {
+        let words: &Request = request;
+        match one_hub(self.choice, words) {
             Some(hub) => self.ask_at(hub, moment, request),
-            None => self.ask_each(moment, request),
+            None => self.ask_each(moment, words),
         }
     }
 }

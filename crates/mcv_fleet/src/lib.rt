@@ -7,6 +7,7 @@ mod crew;
 mod desks;
 mod fleet;
 mod host;
+mod one_key;
 mod posts;
 mod receipts;
 mod running;

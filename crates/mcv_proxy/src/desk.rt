@@ -484,7 +484,8 @@ impl<'a, B: HubLedger, T: Ledger, L: Link, W: Watch, R: Wait + Clock> Caller<'a,
         self.errands.agenda.finish();
     }
 
-    /// Begins a call for one key of a request at this moment, and leaves its legs to the workers of their servers.
+    /// Begins a call for one key of a request at this moment, whatever chapter is due, and leaves its legs to the workers of their
+    /// servers.
     fn begin_one(
         &mut self,
         moment: Moment,
@@ -503,7 +504,7 @@ impl<'a, B: HubLedger, T: Ledger, L: Link, W: Watch, R: Wait + Clock> Caller<'a,
         let _ = guard.clock(moment);
         let seat = &mut self.seat;
         let agenda = &mut self.errands.agenda;
-        let (guard, begun) = begin_in_chapter(rt, alloc, hub, guard, seat, agenda, request, key);
+        let begun = events::begin_in_turn(alloc, agenda, &mut guard, seat, request, key);
         self.errands.agenda.leave(guard.core());
         drop(guard);
         self.errands.agenda.finish();
@@ -720,8 +721,8 @@ impl<'a, B: HubLedger, T: Ledger, L: Link, R: Wait + Clock> HubDesk<'a, B, T, L,
         self.ask(request)
     }
 
-    /// Waits until calls may begin, where the hub's next chapter is due (`Hub::enter`): before calls for keys of several hubs, since
-    /// none of them waits once another one runs.
+    /// Waits until calls may begin, where the hub's next chapter is due (`Hub::enter`): before those of `begin_for`, which don't wait
+    /// by themselves.
     pub fn enter(&mut self) {
         self.caller.enter()
     }

@@ -1,5 +1,4 @@
 use Rattle.std.proofs.Common.{◌≡◌, length, rules}
-use Rattle.std.specs.Arc.{arc_value}
 use Rattle.mcv_session.specs.Desk.{keys_of}
 use Rattle.mcv_text.specs.Request.{request_value}
 use Rattle.mcv_fleet.proofs.KeysOfHubs.{answered_each, refused_each}
@@ -7,9 +6,9 @@ use Rattle.mcv_fleet.proofs.desks.HubsDesk.ask_each.Goals as goal
 
 pub returns-in-Ok-clause-asks : goal.returns-in-Ok-clause-asks
 returns-in-Ok-clause-asks g c =
-    let request = arc_value c.args.request.now in
+    let request = c.args.request.now in
     let one_each : length c.take_replies.new.room.taken.items ≡ length (keys_of (request_value request)) = search rules in
-    answered_each g.F.HubNames.opened_of c.args.self.now.choice.now request c.take_replies.new.room.taken.items c.into_parts.result.items c.in-Ok.ensures.taken one_each c.into_parts.ensures
+    answered_each g.F.HubNames.opened_of c.args.self.now.choice.now request c.take_replies.new.room.taken.items c.into_parts.result.items c.in-Ok-3.ensures.taken one_each c.into_parts.ensures
 
 pub returns-in-Err-clause-asks : goal.returns-in-Err-clause-asks
-returns-in-Err-clause-asks g c = refused_each g.F.HubNames.opened_of c.args.self.now.choice.now (arc_value c.args.request.now) c.in-Err.fault c.fault_for.result c.fault_for.ensures c.in-Err.ensures.err
+returns-in-Err-clause-asks g c = refused_each g.F.HubNames.opened_of c.args.self.now.choice.now c.args.request.now c.in-Err.fault c.fault_for.result c.fault_for.ensures c.in-Err.ensures.err

@@ -1,5 +1,4 @@
 use Rattle.std.proofs.Common.{◌≡◌}
-use Rattle.std.specs.Arc.{arc_value}
 use Rattle.std.specs.Prelude.{vec_len, vec_capacity}
 use Rattle.mcv_fleet.specs.Desks.{AreBegunAt}
 use Rattle.mcv_fleet.proofs.desks.HubsDesk.begin_each.Given as goal
@@ -7,7 +6,7 @@ use Rattle.mcv_fleet.proofs.desks.HubsDesk.begin_each.Given as goal
 -- a call for each key so far
 abbrev pub invariant-loop-key : goal.invariant-loop-key
 invariant-loop-key g l = record {
-  began : AreBegunAt g.F.HubNames.opened_of l.choice (arc_value l.request) l.calls.items;
+  began : AreBegunAt g.F.HubNames.opened_of l.choice l.request l.calls.items;
   each : vec_len l.calls ≡ l.key;
   room : vec_capacity l.calls ≡ vec_capacity l.fn.calls;
 }
