@@ -21,6 +21,7 @@ use mcv_proxy::{HubDesk, Link, Watch, fault_for, into_parts, key_count};
 use mcv_session::{Desk, DeskFault};
 use mcv_spool::Disk;
 use std::alloc::{AllocError, Global};
+use std::mem;
 use std::rt::Clock;
 use std::sync::{Arc, Wait};
 
@@ -111,6 +112,14 @@ fn with_more(
     other: Vec<Receipt>,
 ) -> Result<Vec<Receipt>, AllocError> {
     joined(all?, other)
+}
+
+/// Marks a hub: whether it is there and had no mark.
+fn mark(marks: &mut [bool], hub: usize) -> bool {
+    match marks.get_mut(hub) {
+        Some(is_marked) => !mem::replace(is_marked, true),
+        None => false,
+    }
 }
 
 impl<'a, F: HubNames, G: Names, L: Link, W: Watch, R: Wait + Clock> HubsDesk<'a, F, G, L, W, R> {
@@ -315,11 +324,10 @@ impl<'a, F: HubNames, G: Names, L: Link, W: Watch, R: Wait + Clock> HubsDesk<'a,
 
     /// Waits until calls may begin at the hubs of all keys of a request, before one of its own runs.
     fn enter_each(&mut self, choice: &HubChoice, request: &Request) {
-        let mut entered = [false; MOST_HUBS];
+        let mut marks = [false; MOST_HUBS];
         for key in 0..key_count(request) {
             let hub = choice.hub_of_key(request, key);
-            if !entered[hub] {
-                entered[hub] = true;
+            if mark(&mut marks, hub) {
                 self.enter_at(hub);
             }
         }

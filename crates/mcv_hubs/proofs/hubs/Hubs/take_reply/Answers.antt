@@ -1,4 +1,4 @@
-use Rattle.std.proofs.Common.{refl, subst, sym}
+use Rattle.std.proofs.Common.{arith, refl, subst, sym}
 use Rattle.mcv_hubs.proofs.Counting.{at0, at1, at2, at3, at4, at5, at6, at7, at_none}
 use Rattle.mcv_hubs.specs.Taken.{WasTaken}
 use Rattle.mcv_hubs.proofs.hubs.Hubs.take_reply.Goals as goal
@@ -54,3 +54,30 @@ returns-in-6-clause-event g c = λ there. subst (λ hub. WasTaken hub c.args.cal
 
 pub returns-in-7-clause-event : goal.returns-in-7-clause-event
 returns-in-7-clause-event g c = λ there. subst (λ hub. WasTaken hub c.args.call.call c.take_reply-in-7.result) (sym c.in-7.is) c.take_reply-in-7.ensures.event
+
+pub returns-in_default-clause-event : goal.returns-in_default-clause-event
+returns-in_default-clause-event g c = λ there. absurd (omega (arith, there))
+
+pub returns-in-0-clause-unknown : goal.returns-in-0-clause-unknown
+returns-in-0-clause-unknown g c = λ far. absurd (omega (arith, far))
+
+pub returns-in-1-clause-unknown : goal.returns-in-1-clause-unknown
+returns-in-1-clause-unknown g c = λ far. absurd (omega (arith, far))
+
+pub returns-in-2-clause-unknown : goal.returns-in-2-clause-unknown
+returns-in-2-clause-unknown g c = λ far. absurd (omega (arith, far))
+
+pub returns-in-3-clause-unknown : goal.returns-in-3-clause-unknown
+returns-in-3-clause-unknown g c = λ far. absurd (omega (arith, far))
+
+pub returns-in-4-clause-unknown : goal.returns-in-4-clause-unknown
+returns-in-4-clause-unknown g c = λ far. absurd (omega (arith, far))
+
+pub returns-in-5-clause-unknown : goal.returns-in-5-clause-unknown
+returns-in-5-clause-unknown g c = λ far. absurd (omega (arith, far))
+
+pub returns-in-6-clause-unknown : goal.returns-in-6-clause-unknown
+returns-in-6-clause-unknown g c = λ far. absurd (omega (arith, far))
+
+pub returns-in-7-clause-unknown : goal.returns-in-7-clause-unknown
+returns-in-7-clause-unknown g c = λ far. absurd (omega (arith, far))
