@@ -2,7 +2,6 @@
 
 ghost use Rattle.std.specs.Prelude.{◌≡◌, [], ◌∷◌, IfOk, map, option_to_list, slice_get};
 ghost use Rattle.std.specs.Arc.{arc_value};
-ghost use Rattle.mcv_base.specs.declared.request.Request.TheVariants.{Ask as AskRequest};
 ghost use Rattle.mcv_fleet.specs.OneKey.{AreOfKeys, only_key};
 ghost use Rattle.mcv_text.specs.Request.{request_value};
 
@@ -33,7 +32,7 @@ fn word_alone(alloc: Global, words: &[Vec<u8>], key: usize) -> Result<Vec<Vec<u8
 
 /// What a request asks, with the key word of this number alone.
 fn ask_of_key(alloc: Global, ask: &Ask, key: usize) -> Result<Ask, AllocError>
-    ensures { IfOk result (λ a. request_value (AskRequest a) ≡ only_key (request_value (AskRequest ask.now)) key) }
+    ensures { IfOk result (λ a. request_value (Request.Ask a) ≡ only_key (request_value (Request.Ask ask.now)) key) }
 {
     let body = Arc::try_clone(&ask.body)?;
     let keys = word_alone(alloc, ask.keys.as_slice(), key)?;
