@@ -302,9 +302,9 @@ fn deletes_of_a_dead_server_are_pending(rt: HostRuntime) {
 /// How many clients ask many keys at once, how often each does, and of how many keys.
 const ASKERS: usize = 4;
 
-const WIDE_GETS: usize = 20;
+const WIDE_GETS: usize = 200;
 
-const WIDTH: usize = 1_000;
+const WIDTH: usize = 100;
 
 /// Gets of a key of the first of two hubs, and behind it of many of the second.
 fn wide_gets<R: Abort>(rt: &R, alloc: Global) -> Vec<u8> {
@@ -319,8 +319,8 @@ fn wide_gets<R: Abort>(rt: &R, alloc: Global) -> Vec<u8> {
     text
 }
 
-/// A get counts 14 entries here, so that the second hub would be full after 71,428: its chapter has to end although no request
-/// has its first key there, and some client's calls run at any time.
+/// A call counts 14 entries here, so that the second hub would be full after 71,428: its chapter has to end although no request has
+/// its first key there, and some client's calls run at any time.
 #[test]
 fn chapters_end_under_gets_of_two_hubs(rt: HostRuntime) {
     let alloc = rt.alloc();
@@ -341,6 +341,6 @@ fn chapters_end_under_gets_of_two_hubs(rt: HostRuntime) {
     scene.hubs = 2;
     let (report, _seen) = play(rt, alloc, ALL, scene);
     let report = report.expect(&rt, "a report");
-    assert_eq!(rt; report.begun, 80_080);
-    assert_eq!(rt; report.taken, 80_080);
+    assert_eq!(rt; report.begun, 80_800);
+    assert_eq!(rt; report.taken, 80_800);
 }
