@@ -80,6 +80,7 @@ impl HubChoice {
         ensures there { result < self.now }
         ensures most { self.now ≤ 8 }
     {
+        let _symbol = &self.symbol;
         match key_of(request, key) {
             Some((_op, _prefix, rest)) => self.hub_of_bytes(rest),
             None => 0,
