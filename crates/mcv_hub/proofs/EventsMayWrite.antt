@@ -24,7 +24,7 @@ use Rattle.mcv_world.proofs.Numbers.{no_some}
 use Rattle.mcv_events.specs.Events.{in_state, refused_rows}
 use Rattle.mcv_events.specs.Rows as rows
 use Rattle.mcv_events.specs.Rows.{CallRow, IsCore, LegRow, Rows, awaits, leg_of, leg_state, with_leg_row, world_of}
-use Rattle.mcv_events.specs.Runs.{OpenedRecord, opened, spooled_row}
+use Rattle.mcv_events.specs.Runs.{OpenedRecord, spooled_row}
 use Rattle.mcv_events.specs.Sums.{sum_below}
 use Rattle.mcv_core.specs.Beginning.{begun}
 use Rattle.mcv_core.specs.PlannedLegs.{legs_of_call}

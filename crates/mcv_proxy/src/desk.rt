@@ -1,36 +1,31 @@
 //! The desk over a hub: a request's keys are calls of the hub.
 
-ghost use Rattle.std.specs.Prelude.{◌≡◌, ◌↔◌, ◌+◌, ◌<◌, ◌≤◌, [], fold, length, map, nat_le, option_map, vec_len, vec_capacity, true, IfErr, IfNone, IfOk, IfSome, OnErr, OnOk};
+ghost use Rattle.std.specs.Prelude.{◌≡◌, ◌↔◌, ◌+◌, ◌<◌, ◌≤◌, [], ◌∷◌, fold, length, map, nat_le, option_map, vec_len, vec_capacity, true, IfErr, IfNone, IfOk, IfSome, OnErr, OnOk};
 ghost use Rattle.std.specs.Arc.{arc_value};
-ghost use Rattle.std.specs.Coded.{Coded-set};
-ghost use Rattle.mcv_route.specs.Codes.{routes_code};
 ghost use Rattle.std.specs.List.{All, filter};
 ghost use Rattle.mcv_text.specs.Request.{request_value};
 ghost use Rattle.mcv_session.specs.Desk.{keys_of};
-ghost use Rattle.mcv_proxy.specs.Desk.{AreBegun, AreFor, AreTaken, Asks, HasMissing, IsFor, IsRouted, IsUnanswered, IsUnrouted, WasBegun, WasMissing, WasRefused, WasTaken, desk_fault, with_receipt, word_at};
+ghost use Rattle.mcv_proxy.specs.Desk.{AreBegun, AreFor, AreTaken, Asks, HasMissing, HasOtherReply, IsFor, IsOnlyReplyFor, IsReplyFor, IsRouted, IsUnanswered, IsUnrouted, IsUntaken, WasAsked, WasBegun, WasMissing, WasRefused, WasTaken, desk_fault, with_receipt, word_at};
 
 use crate::agenda::Agenda;
 use crate::errands::Errands;
 use crate::events;
-use crate::events::Attempt;
 use crate::gates::{Link, Watch};
+use crate::hub_routes::HubRoutes;
 use crate::lanes::{Lanes, Links};
-use mcv_base::{CallId, Op, Part, Request, Rest, key_words_have_one_reading, split_key};
+use mcv_base::{CallId, Moment, Op, Part, Request, Rest, key_words_have_one_reading, split_key};
 use mcv_core::CoreFault;
-use mcv_hub::{Bell, Guard, Hub, HubLedger, Pass, Receipt, Seat, TakenReply};
+use mcv_hub::{Bell, Gate, Guard, Hub, HubLedger, Pass, Receipt, Seat, TakenReply};
 use mcv_route::Routes;
 use mcv_session::{Desk, DeskFault};
 use std::alloc::{AllocError, Global};
 use std::rt::Clock;
 use std::sync::ledger::Ledger;
 use std::sync::{Arc, Wait};
-use std::time::{Duration, Instant};
+use std::time::Duration;
 
-/// How long a call waits for a place in the chapter, in milliseconds.
+/// How long a call waits for the next chapter at most, in milliseconds.
 const PATIENCE: u64 = 1_000;
-
-/// How long it waits each time at most, in milliseconds.
-const PAUSE: u64 = 10;
 
 /// What calls of a hub take: the ways to the servers, the pass and the seat of one session, its watch and its errands.
 #[derive(Drop)]
@@ -59,9 +54,7 @@ struct Progress {
 pub struct HubDesk<'a, B: HubLedger, T: Ledger, L: Link, W: Watch, R: Wait + Clock> {
     caller: Caller<'a, B, T, L, W, R>,
     kept: Kept,
-    /// The hub's. They aren't asked of the hub at each request: what lies beside its lock is slow to read while others take it.
-    routes: &'a Routes,
-    ghost its: { routes.now ≡ B.opened.routes } by { Coded-set routes_code routes.now B.opened.routes },
+    routes: HubRoutes<'a, B>,
 }
 
 /// The receipts of replies that were taken, without those of earlier chapters than that of the last one.
@@ -109,7 +102,7 @@ impl Room {
 }
 
 /// What a client is answered where the core refuses a call.
-fn fault_for(fault: CoreFault) -> DeskFault
+pub fn fault_for(fault: CoreFault) -> DeskFault
     ensures { result ≡ desk_fault fault }
 {
     match fault {
@@ -127,7 +120,7 @@ fn fault_for(fault: CoreFault) -> DeskFault
 }
 
 /// How many keys a request has.
-fn key_count(request: &Request) -> usize
+pub fn key_count(request: &Request) -> usize
     ensures { result ≡ length (keys_of (request_value request.now)) }
 {
     match request {
@@ -195,32 +188,24 @@ fn are_for(routes: &Routes, request: &Request, taken: &[TakenReply]) -> bool
     true
 }
 
-/// When a call began to wait for a place in the chapter.
-#[derive(Clone, Copy)]
-struct Patience {
-    since: Option<Instant>,
-}
-
-impl Patience {
-    /// Whether a call has waited for `PATIENCE`; it begins to wait where it is asked first. Where the clock can't be read it
-    /// has.
-    fn is_over<R: Clock>(&mut self, rt: &R) -> bool {
-        let Ok(now) = Instant::now(rt) else {
-            return true;
-        };
-        match self.since {
-            Some(since) => now.duration_since(since) >= Duration::from_millis(PATIENCE),
-            None => {
-                self.since = Some(now);
-                false
-            }
-        }
+/// Waits until calls may begin, where the next chapter is due; not for ever, so that they begin in the old one where that takes
+/// too long. The session's own calls at this hub must not run.
+fn enter<'a, B: HubLedger, T: Ledger, R: Wait + Clock>(
+    rt: &R,
+    alloc: Global,
+    hub: &Hub<B, T>,
+    guard: Guard<'a, B, T>,
+    agenda: &mut Agenda<'_, B, T>,
+) -> Guard<'a, B, T> {
+    let (guard, gate) = hub.enter(rt, alloc, guard, Duration::from_millis(PATIENCE));
+    if let Gate::Turned(past) = gate {
+        agenda.note_turned(past);
     }
+    guard
 }
 
-/// Begins a call. Where the chapter has no place for it, a new chapter begins first, and the call is begun once more. The
-/// first key of a request waits for that a second at most, while calls run or legs are queued; for another one the
-/// request's own calls run, so it is refused.
+/// Begins a call for one key of a request. The first key waits for the next chapter where that is due; for another key the
+/// request's own calls run, so it doesn't.
 fn begin_in_chapter<'a, B: HubLedger, T: Ledger, R: Wait + Clock>(
     rt: &R,
     alloc: Global,
@@ -238,17 +223,11 @@ fn begin_in_chapter<'a, B: HubLedger, T: Ledger, R: Wait + Clock>(
     ensures taken { seat.new.taken.amount ≡ seat.old.taken.amount }
 {
     let mut guard = guard;
-    let mut patience = Patience { since: None };
-    for _attempt in rt.forever() {
-        let Attempt { begun, may_wait } = events::begin_in_turn(
-            alloc, agenda, &mut guard, seat, request, key,
-        );
-        if !may_wait || key > 0 || patience.is_over(rt) {
-            return (guard, begun);
-        }
-        guard = hub.wait_for(rt, guard, Bell::Chapter, Duration::from_millis(PAUSE));
+    if key == 0 {
+        guard = enter(rt, alloc, hub, guard, agenda);
     }
-    unreachable!()
+    let begun = events::begin_in_turn(alloc, agenda, &mut guard, seat, request, key);
+    (guard, begun)
 }
 
 /// Begins the calls for the keys of a request, in their order, up to the first that is refused.
@@ -362,7 +341,7 @@ fn go_on<B: HubLedger, T: Ledger, L: Link, R: Wait>(
         progress = take_ready(&mut guard, seat, calls, progress, taken);
         let Some(call) = calls.get(progress.done) else {
             errands.agenda.leave(guard.core());
-            events::turn_where_full(&mut errands.agenda, &mut guard, errands.turn_from);
+            errands.agenda.turn_where_due(&mut guard);
             return progress;
         };
         let has_lost = errands.set_off(rt, alloc, lanes, &mut guard, calls, Some(*call));
@@ -444,7 +423,7 @@ impl Kept {
 }
 
 /// The replies as a client gets them.
-fn into_parts(taken: Vec<TakenReply>, parts: Vec<Part>) -> Vec<Part>
+pub fn into_parts(taken: Vec<TakenReply>, parts: Vec<Part>) -> Vec<Part>
     requires empty { parts.items ≡ [] }
     requires room { vec_len taken ≤ vec_capacity parts }
     ensures { result.items ≡ map (λ t. t.reply) taken.items }
@@ -493,6 +472,42 @@ impl<'a, B: HubLedger, T: Ledger, L: Link, W: Watch, R: Wait + Clock> Caller<'a,
         );
         self.errands
             .set_off(rt, alloc, lanes, &mut guard, calls.as_slice(), None);
+        begun
+    }
+
+    /// Waits until calls may begin, where the next chapter is due.
+    fn enter(&mut self) {
+        let (rt, alloc, hub) = (self.rt, self.alloc, self.hub);
+        let guard = hub.lock(rt, &mut self.pass);
+        let guard = enter(rt, alloc, hub, guard, &mut self.errands.agenda);
+        drop(guard);
+        self.errands.agenda.finish();
+    }
+
+    /// Begins a call for one key of a request at this moment, whatever chapter is due, and leaves its legs to the workers of their
+    /// servers.
+    fn begin_one(
+        &mut self,
+        moment: Moment,
+        request: &Arc<Request>,
+        key: usize,
+    ) -> Result<CallId, CoreFault>
+        ensures began { IfOk result (WasBegun B.opened (request_value (arc_value request.now)) key) }
+        ensures err { IfErr result (WasRefused B.opened (request_value (arc_value request.now)) key) }
+        ensures begun { OnOk result (self.new.seat.begun.amount ≡ self.old.seat.begun.amount + 1) }
+        ensures unbegun { OnErr result (self.new.seat.begun.amount ≡ self.old.seat.begun.amount) }
+        ensures taken { self.new.seat.taken.amount ≡ self.old.seat.taken.amount }
+    {
+        let (rt, alloc, hub) = (self.rt, self.alloc, self.hub);
+        let mut guard = hub.lock(rt, &mut self.pass);
+        // A moment before the hub's leaves its era as it is.
+        let _ = guard.clock(moment);
+        let seat = &mut self.seat;
+        let agenda = &mut self.errands.agenda;
+        let begun = events::begin_in_turn(alloc, agenda, &mut guard, seat, request, key);
+        self.errands.agenda.leave(guard.core());
+        drop(guard);
+        self.errands.agenda.finish();
         begun
     }
 
@@ -557,9 +572,31 @@ impl<'a, B: HubLedger, T: Ledger, L: Link, W: Watch, R: Wait + Clock> Caller<'a,
     }
 }
 
+/// The one reply in a list, which is empty then, where it is for this key; else it is dropped, and it is NoSuchCall.
+fn reply_for(
+    routes: &Routes,
+    request: &Request,
+    key: usize,
+    one: &mut Vec<TakenReply>,
+) -> Result<TakenReply, CoreFault>
+    requires { vec_len one.old ≡ 1 }
+    ensures ok { IfOk result (IsOnlyReplyFor routes.now (request_value request.now) key one.old.items) }
+    ensures err { IfErr result (HasOtherReply routes.now (request_value request.now) key one.old.items) }
+    ensures empty { one.new.items ≡ [] }
+    ensures room { vec_capacity one.new ≡ vec_capacity one.old }
+{
+    let Some(reply) = one.pop() else {
+        unreachable!()
+    };
+    if is_for(routes, request, key, &reply) {
+        Ok(reply)
+    } else {
+        Err(CoreFault::NoSuchCall)
+    }
+}
+
 impl<'a, B: HubLedger, T: Ledger, L: Link, W: Watch, R: Wait + Clock> HubDesk<'a, B, T, L, W, R> {
-    /// A desk over a hub that has answered nothing. Once the hub's chapter has `turn_from` entries or more a
-    /// new one begins as soon as no call runs and no leg is queued.
+    /// A desk over a hub that has answered nothing.
     pub fn new(
         rt: &'a R,
         alloc: Global,
@@ -569,7 +606,6 @@ impl<'a, B: HubLedger, T: Ledger, L: Link, W: Watch, R: Wait + Clock> HubDesk<'a
         pass: Pass,
         seat: Seat<B, T>,
         watch: W,
-        turn_from: usize,
     ) -> HubDesk<'a, B, T, L, W, R>
         ensures seat { result.caller.seat ≡ seat }
         ensures receipts { result.kept.receipts.items ≡ [] }
@@ -584,10 +620,10 @@ impl<'a, B: HubLedger, T: Ledger, L: Link, W: Watch, R: Wait + Clock> HubDesk<'a
                 pass,
                 seat,
                 watch,
-                errands: Errands::new(alloc, hub, turn_from),
+                errands: Errands::new(alloc, hub),
             },
             kept: Kept::new(alloc),
-            routes: hub.routes(),
+            routes: HubRoutes::of(hub),
         }
     }
 
@@ -625,7 +661,7 @@ impl<'a, B: HubLedger, T: Ledger, L: Link, W: Watch, R: Wait + Clock> HubDesk<'a
         ensures err { IfErr result (IsUnanswered B.opened (request_value (arc_value request.now)) calls.new.items taken.new.items) }
     {
         let count = key_count(request);
-        let routes = self.routes;
+        let routes = self.routes.get();
         let begun = self.caller.begin_all(request, count, calls);
         let outcome = self.caller.take_all(calls.as_slice(), taken);
         self.kept.keep_all(taken.as_slice());
@@ -666,6 +702,69 @@ impl<'a, B: HubLedger, T: Ledger, L: Link, W: Watch, R: Wait + Clock> Desk
         match self.take_replies(request, &mut calls, &mut taken) {
             Ok(()) => Ok(into_parts(taken, parts)),
             Err(fault) => Err(fault_for(fault)),
+        }
+    }
+}
+
+impl<'a, B: HubLedger, T: Ledger, L: Link, R: Wait + Clock> HubDesk<'a, B, T, L, Moment, R> {
+    ghost use Rattle.mcv_session.specs.Desk.{HasOneEach, answer_value};
+
+    /// As `ask`, at this moment.
+    pub fn ask_then(
+        &mut self,
+        moment: Moment,
+        request: &Arc<Request>,
+    ) -> Result<Vec<Part>, DeskFault>
+        ensures asks { WasAsked B.opened (request_value (arc_value request.now)) (answer_value result) }
+        ensures each { HasOneEach (request_value (arc_value request.now)) (answer_value result) }
+    {
+        self.caller.watch = moment;
+        self.ask(request)
+    }
+
+    /// Waits until calls may begin, where the hub's next chapter is due (`Hub::enter`): before those of `begin_for`, which don't wait
+    /// by themselves.
+    pub fn enter(&mut self) {
+        self.caller.enter()
+    }
+
+    /// Begins a call for one key of a request, counted from 0, at this moment. Its reply is to be taken by `take_for`, or the
+    /// hub's chapter never ends.
+    pub fn begin_for(
+        &mut self,
+        moment: Moment,
+        request: &Arc<Request>,
+        key: usize,
+    ) -> Result<CallId, CoreFault>
+        ensures began { IfOk result (WasBegun B.opened (request_value (arc_value request.now)) key) }
+        ensures err { IfErr result (WasRefused B.opened (request_value (arc_value request.now)) key) }
+    {
+        self.caller.begin_one(moment, request, key)
+    }
+
+    /// Takes the reply to a call that was begun for one key of a request, once it is there; its receipt isn't kept. The list is
+    /// empty before and after. An error is NoSuchCall, where the call doesn't run, or the reply is for another key.
+    pub fn take_for(
+        &mut self,
+        request: &Request,
+        key: usize,
+        call: CallId,
+        one: &mut Vec<TakenReply>,
+    ) -> Result<TakenReply, CoreFault>
+        requires empty { one.old.items ≡ [] }
+        requires room { 1 ≤ vec_capacity one.old }
+        ensures reply { IfOk result (IsReplyFor B.opened (request_value request.now) key) }
+        ensures of_call { IfOk result (λ reply. reply.receipt.call ≡ call) }
+        ensures err { IfErr result (IsUntaken B.opened (request_value request.now) key call) }
+        ensures empty { one.new.items ≡ [] }
+        ensures room { vec_capacity one.new ≡ vec_capacity one.old }
+    {
+        match self.caller.take_all(&[call], one) {
+            Ok(()) => reply_for(self.routes.get(), request, key, one),
+            Err(fault) => {
+                one.clear();
+                Err(fault)
+            }
         }
     }
 }

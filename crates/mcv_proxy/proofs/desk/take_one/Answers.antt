@@ -1,4 +1,5 @@
-use Rattle.mcv_proxy.proofs.Books.{missing_call, no_call, refused_counts, taken_begins, taken_counts, untaken_counts}
+use Rattle.mcv_hub.proofs.Books.{refused_counts, taken_begins, taken_counts, untaken_counts}
+use Rattle.mcv_proxy.proofs.Books.{missing_call, no_call}
 use Rattle.mcv_proxy.proofs.Taken.{found_call, found_was_taken}
 use Rattle.mcv_proxy.proofs.desk.take_one.Goals as goal
 
