@@ -8,6 +8,7 @@
 #![tactic(auto)]
 
 mod agenda;
+mod caller;
 mod departure;
 mod desk;
 mod destination;
@@ -17,17 +18,20 @@ mod events;
 mod fault;
 mod gates;
 mod hub_routes;
+mod kept;
+mod keys;
 mod landing;
 mod lanes;
 mod replay;
 mod seen;
 mod spooling;
 
-pub use crate::desk::{HubDesk, fault_for, into_parts, key_count};
+pub use crate::desk::{HubDesk, fault_for, into_parts};
 pub use crate::destination::serve_destination;
 pub use crate::ends::Ends;
 pub use crate::fault::ProxyFault;
 pub use crate::gates::{Gates, Link, LinkFault, Watch};
+pub use crate::keys::key_count;
 pub use crate::lanes::{Lanes, Links};
 pub use crate::replay::serve_replay;
 pub use crate::spooling::serve_spool;

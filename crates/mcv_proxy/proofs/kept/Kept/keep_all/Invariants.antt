@@ -1,7 +1,7 @@
 use Rattle.std.proofs.Common.{◌≡◌, ◌+◌, ◌≤◌, fold, take}
 use Rattle.std.specs.Prelude.{vec_len, vec_capacity}
 use Rattle.mcv_proxy.specs.Desk.{with_receipt}
-use Rattle.mcv_proxy.proofs.desk.Kept.keep_all.Given as goal
+use Rattle.mcv_proxy.proofs.kept.Kept.keep_all.Given as goal
 
 -- the receipts so far were kept
 abbrev pub invariant-loop-reply : goal.invariant-loop-reply

@@ -3,7 +3,7 @@ use Rattle.std.specs.Arc.{arc_value}
 use Rattle.std.specs.Prelude.{vec_len, vec_capacity}
 use Rattle.mcv_text.specs.Request.{request_value}
 use Rattle.mcv_proxy.specs.Desk.{AreBegun}
-use Rattle.mcv_proxy.proofs.desk.begin_each.Given as goal
+use Rattle.mcv_proxy.proofs.caller.begin_each.Given as goal
 
 -- a call for each key so far
 abbrev pub invariant-loop-key : goal.invariant-loop-key

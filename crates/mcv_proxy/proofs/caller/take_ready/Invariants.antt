@@ -1,7 +1,7 @@
 use Rattle.std.proofs.Common.{◌≡◌, ◌+◌}
 use Rattle.std.specs.Prelude.{vec_len, vec_capacity}
 use Rattle.mcv_proxy.specs.Desk.{AreTaken}
-use Rattle.mcv_proxy.proofs.desk.take_ready.Given as goal
+use Rattle.mcv_proxy.proofs.caller.take_ready.Given as goal
 
 -- the reply to each call so far was taken, unless one won't come
 abbrev pub invariant-loop-done : goal.invariant-loop-done

@@ -1,7 +1,7 @@
 use Rattle.std.proofs.Common.{nat_le, sym, rules}
 use Rattle.std.proofs.lemmas.Fn.{filter_same}
 use Rattle.mcv_proxy.proofs.Receipts.{none_goes}
-use Rattle.mcv_proxy.proofs.desk.drop_older.Goals as goal
+use Rattle.mcv_proxy.proofs.kept.drop_older.Goals as goal
 
 pub returns-then-chapter-oldest-clause-items : goal.returns-then-chapter-oldest-clause-items
 returns-then-chapter-oldest-clause-items c = sym (none_goes c.args.chapter c.args.oldest c.args.receipts.now.items c.requires c.if-chapter-oldest.true)

@@ -3,7 +3,7 @@ use Rattle.std.proofs.lemmas.Bool.{false≢true}
 use Rattle.mcv_text.specs.Request.{request_value}
 use Rattle.mcv_proxy.specs.Desk.{word_at}
 use Rattle.mcv_proxy.proofs.Routed.{asked_at, is_for_asked, not_for_unrouted}
-use Rattle.mcv_proxy.proofs.desk.is_for.Goals as goal
+use Rattle.mcv_proxy.proofs.keys.is_for.Goals as goal
 
 pub returns-in-Ok : goal.returns-in-Ok
 returns-in-Ok c =

@@ -3,7 +3,7 @@ use Rattle.std.specs.Prelude.{slice_get}
 use Rattle.mcv_text.specs.Request.{request_value}
 use Rattle.mcv_hub.specs.declared.seat.TakenReply.{TakenReply}
 use Rattle.mcv_proxy.specs.Desk.{IsFor}
-use Rattle.mcv_proxy.proofs.desk.are_for.Given as goal
+use Rattle.mcv_proxy.proofs.keys.are_for.Given as goal
 
 -- the replies so far are for their keys
 abbrev pub invariant-loop-key : goal.invariant-loop-key

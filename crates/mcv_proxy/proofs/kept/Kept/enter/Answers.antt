@@ -2,7 +2,7 @@ use Rattle.std.proofs.Common.{◌≤◌, List, sym, subst}
 use Rattle.std.specs.List.{All}
 use Rattle.mcv_hub.specs.declared.receipts.Receipt.{Receipt}
 use Rattle.mcv_proxy.proofs.Receipts.{all_current}
-use Rattle.mcv_proxy.proofs.desk.Kept.enter.Goals as goal
+use Rattle.mcv_proxy.proofs.kept.Kept.enter.Goals as goal
 
 pub invariant_of-self : goal.invariant_of-self
 invariant_of-self c =

@@ -2,8 +2,8 @@ use Rattle.std.proofs.Common.{◌≡◌, ◌∙◌, ◌+◌, ◌++◌, [], ◌�
 use Rattle.std.proofs.lemmas.Grind.{common_steps}
 use Rattle.mcv_proxy.specs.Desk.{AreTaken}
 use Rattle.mcv_proxy.proofs.Taken.{one_missed, one_more_taken}
-use Rattle.mcv_proxy.proofs.desk.take_ready.Goals as goal
-use Rattle.mcv_proxy.proofs.desk.take_ready.Goals.{in-Ok-Some, in-Err}
+use Rattle.mcv_proxy.proofs.caller.take_ready.Goals as goal
+use Rattle.mcv_proxy.proofs.caller.take_ready.Goals.{in-Ok-Some, in-Err}
 
 pub loop-done-preserved : goal.loop-done-preserved
 loop-done-preserved g c =

@@ -1,7 +1,7 @@
 use Rattle.std.proofs.Common.{◌≡◌, ◌+◌}
 use Rattle.std.specs.Prelude.{vec_len, vec_capacity}
 use Rattle.mcv_proxy.specs.Desk.{AreTaken}
-use Rattle.mcv_proxy.proofs.desk.Caller.take_all.Given as goal
+use Rattle.mcv_proxy.proofs.caller.Caller.take_all.Given as goal
 
 -- the replies to the calls that are done with were taken, unless one won't come
 abbrev pub invariant-loop-turn : goal.invariant-loop-turn

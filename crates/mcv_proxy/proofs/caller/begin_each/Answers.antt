@@ -4,7 +4,7 @@ use Rattle.std.specs.Arc.{arc_value}
 use Rattle.mcv_text.specs.Request.{request_value}
 use Rattle.mcv_proxy.specs.Desk.{WasBegun}
 use Rattle.mcv_proxy.proofs.Books.{none_was_begun, one_more_begun}
-use Rattle.mcv_proxy.proofs.desk.begin_each.Goals as goal
+use Rattle.mcv_proxy.proofs.caller.begin_each.Goals as goal
 
 pub loop-key-init : goal.loop-key-init
 loop-key-init g c = record {

@@ -1,7 +1,7 @@
 use Rattle.mcv_hub.proofs.Books.{refused_counts, taken_begins, taken_counts, untaken_counts}
 use Rattle.mcv_proxy.proofs.Books.{missing_call, no_call}
 use Rattle.mcv_proxy.proofs.Taken.{found_call, found_was_taken}
-use Rattle.mcv_proxy.proofs.desk.take_one.Goals as goal
+use Rattle.mcv_proxy.proofs.caller.take_one.Goals as goal
 
 pub returns-clause-taken : goal.returns-clause-taken
 returns-clause-taken g c = found_was_taken g.B.HubLedger.opened c.args.guard.now c.args.call c.take_reply.result c.is_opened.ensures c.deletes_are_kept.ensures c.take_reply.ensures.receipt

@@ -3,7 +3,7 @@ use Rattle.std.proofs.lemmas.Option.{slice_get_within}
 use Rattle.mcv_text.specs.Request.{request_value}
 use Rattle.mcv_proxy.specs.Desk.{IsFor}
 use Rattle.mcv_proxy.proofs.Routed.{one_more}
-use Rattle.mcv_proxy.proofs.desk.are_for.Goals as goal
+use Rattle.mcv_proxy.proofs.keys.are_for.Goals as goal
 
 pub loop-key-preserved : goal.loop-key-preserved
 loop-key-preserved c =
