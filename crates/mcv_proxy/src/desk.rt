@@ -1,6 +1,6 @@
 //! The desk over a hub: a request's keys are calls of the hub.
 
-ghost use Rattle.std.specs.Prelude.{◌≡◌, ◌+◌, ◌≤◌, [], ◌∷◌, fold, length, map, vec_len, vec_capacity, IfErr, IfOk, OnOk};
+ghost use Rattle.std.specs.Prelude.{◌≡◌, ◌+◌, ◌≤◌, [], fold, length, map, vec_len, vec_capacity, IfErr, IfOk, OnOk};
 ghost use Rattle.std.specs.Arc.{arc_value};
 ghost use Rattle.std.specs.List.{All};
 ghost use Rattle.mcv_text.specs.Request.{request_value};
