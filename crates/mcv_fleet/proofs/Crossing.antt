@@ -29,7 +29,7 @@ use Rattle.mcv_fleet.specs.contracts.posts.Shared as Shared
 use Rattle.mcv_fleet.specs.contracts.host.Visitor as Visitor
 use Rattle.mcv_fleet.proofs.host.Visitor.TheSendSync as visitor
 use Rattle.mcv_fleet.specs.contracts.host.Place as Place
-use Rattle.mcv_fleet.specs.contracts.desks.SessionPasses as SessionPasses
+use Rattle.mcv_fleet.specs.contracts.passes.SessionPasses as SessionPasses
 
 ends_send : IsSend Ends.the_field.row
 ends_send = search (flag.the_field_send, sendable, crosses) depth 24

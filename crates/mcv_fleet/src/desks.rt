@@ -11,47 +11,21 @@ ghost use Rattle.mcv_text.specs.Request.{request_value};
 
 use crate::choice::one_hub;
 use crate::one_key::requests_of_keys;
-use crate::posts::Shared;
+use crate::passes::SessionPasses;
+use crate::posts::{Post, Shared};
 use crate::receipts::Receipts;
 use mcv_base::{CallId, Moment, Part, Request, key_words_have_one_reading};
 use mcv_core::CoreFault;
-use mcv_hub::{Pass, Receipt, TakenReply};
-use mcv_hubs::{At, HubCall, HubChoice, HubNames, HubPasses, MOST_HUBS, Names, Seats};
+use mcv_hub::{Hub, HubLedger, Pass, Receipt, Seat, TakenReply};
+use mcv_hubs::{At, HubCall, HubChoice, HubNames, MOST_HUBS, Names, Seats};
 use mcv_proxy::{HubDesk, Link, Watch, fault_for, into_parts, key_count};
 use mcv_session::{Desk, DeskFault};
 use mcv_spool::Disk;
 use std::alloc::{AllocError, Global};
 use std::mem;
 use std::rt::Clock;
+use std::sync::ledger::Ledger;
 use std::sync::{Arc, Wait};
-
-/// One session's passes, one for the desk of each hub. It has the lock of one hub at a time.
-#[derive(Drop)]
-pub(crate) struct SessionPasses {
-    pass0: Pass,
-    pass1: Pass,
-    pass2: Pass,
-    pass3: Pass,
-    pass4: Pass,
-    pass5: Pass,
-    pass6: Pass,
-    pass7: Pass,
-}
-
-impl SessionPasses {
-    pub(crate) fn new<F: Names, G: Names>(passes: &HubPasses<F, G>) -> SessionPasses {
-        SessionPasses {
-            pass0: passes.pass(),
-            pass1: passes.pass(),
-            pass2: passes.pass(),
-            pass3: passes.pass(),
-            pass4: passes.pass(),
-            pass5: passes.pass(),
-            pass6: passes.pass(),
-            pass7: passes.pass(),
-        }
-    }
-}
 
 /// Answers the requests of one session, each key at its hub.
 #[derive(Drop)]
@@ -122,6 +96,19 @@ fn mark(marks: &mut [bool], hub: usize) -> bool {
     }
 }
 
+/// A session's desk over one hub.
+fn desk_at<'a, B: HubLedger, T: Ledger, L: Link, R: Wait + Clock>(
+    rt: &'a R,
+    alloc: Global,
+    hub: &'a Hub<B, T>,
+    post: &'a Post<L>,
+    pass: Pass,
+    seat: Seat<B, T>,
+) -> HubDesk<'a, B, T, L, Moment, R> {
+    let (lanes, links) = (&post.lanes, &post.links);
+    HubDesk::new(rt, alloc, hub, lanes, links, pass, seat, Moment(0))
+}
+
 impl<'a, F: HubNames, G: Names, L: Link, W: Watch, R: Wait + Clock> HubsDesk<'a, F, G, L, W, R> {
     /// A desk that has answered nothing.
     pub(crate) fn new<D: Disk>(
@@ -158,86 +145,14 @@ impl<'a, F: HubNames, G: Names, L: Link, W: Watch, R: Wait + Clock> HubsDesk<'a,
             choice: &hubs.choice,
             watch,
             mixed: Receipts::new(alloc),
-            desk0: HubDesk::new(
-                rt,
-                alloc,
-                &hubs.hub0,
-                &posts.post0.lanes,
-                &posts.post0.links,
-                pass0,
-                seat0,
-                Moment(0),
-            ),
-            desk1: HubDesk::new(
-                rt,
-                alloc,
-                &hubs.hub1,
-                &posts.post1.lanes,
-                &posts.post1.links,
-                pass1,
-                seat1,
-                Moment(0),
-            ),
-            desk2: HubDesk::new(
-                rt,
-                alloc,
-                &hubs.hub2,
-                &posts.post2.lanes,
-                &posts.post2.links,
-                pass2,
-                seat2,
-                Moment(0),
-            ),
-            desk3: HubDesk::new(
-                rt,
-                alloc,
-                &hubs.hub3,
-                &posts.post3.lanes,
-                &posts.post3.links,
-                pass3,
-                seat3,
-                Moment(0),
-            ),
-            desk4: HubDesk::new(
-                rt,
-                alloc,
-                &hubs.hub4,
-                &posts.post4.lanes,
-                &posts.post4.links,
-                pass4,
-                seat4,
-                Moment(0),
-            ),
-            desk5: HubDesk::new(
-                rt,
-                alloc,
-                &hubs.hub5,
-                &posts.post5.lanes,
-                &posts.post5.links,
-                pass5,
-                seat5,
-                Moment(0),
-            ),
-            desk6: HubDesk::new(
-                rt,
-                alloc,
-                &hubs.hub6,
-                &posts.post6.lanes,
-                &posts.post6.links,
-                pass6,
-                seat6,
-                Moment(0),
-            ),
-            desk7: HubDesk::new(
-                rt,
-                alloc,
-                &hubs.hub7,
-                &posts.post7.lanes,
-                &posts.post7.links,
-                pass7,
-                seat7,
-                Moment(0),
-            ),
+            desk0: desk_at(rt, alloc, &hubs.hub0, &posts.post0, pass0, seat0),
+            desk1: desk_at(rt, alloc, &hubs.hub1, &posts.post1, pass1, seat1),
+            desk2: desk_at(rt, alloc, &hubs.hub2, &posts.post2, pass2, seat2),
+            desk3: desk_at(rt, alloc, &hubs.hub3, &posts.post3, pass3, seat3),
+            desk4: desk_at(rt, alloc, &hubs.hub4, &posts.post4, pass4, seat4),
+            desk5: desk_at(rt, alloc, &hubs.hub5, &posts.post5, pass5, seat5),
+            desk6: desk_at(rt, alloc, &hubs.hub6, &posts.post6, pass6, seat6),
+            desk7: desk_at(rt, alloc, &hubs.hub7, &posts.post7, pass7, seat7),
         }
     }
 

@@ -1,6 +1,7 @@
 //! The sessions of clients, each in a thread of its own.
 
-use crate::desks::{HubsDesk, SessionPasses};
+use crate::desks::HubsDesk;
+use crate::passes::SessionPasses;
 use crate::posts::Shared;
 use crate::running::{Done, Running};
 use crate::threads::STACK;

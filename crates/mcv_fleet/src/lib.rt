@@ -8,6 +8,7 @@ mod desks;
 mod fleet;
 mod host;
 mod one_key;
+mod passes;
 mod posts;
 mod receipts;
 mod running;

@@ -78,18 +78,31 @@ where
     Builder::new().stack_size(STACK).spawn(&rt, job).ok()
 }
 
+/// What a spool's worker works with.
+#[derive(Drop)]
+struct WriterTools<'a, D: Disk, W: Watch> {
+    spool: &'a Mutex<Spool<D>>,
+    /// Of the servers, by their numbers.
+    texts: Vec<Option<ServerText>>,
+    pass: Pass,
+    watch: W,
+}
+
 /// The work of the spool's worker.
 fn write_down<B: HubLedger, T: Ledger, D: Disk, L: Link, W: Watch, R: Wait + Clock>(
     rt: &R,
     alloc: Global,
     hub: &Hub<B, T>,
     post: &Post<L>,
-    spool: &Mutex<Spool<D>>,
-    texts: &[Option<ServerText>],
-    mut pass: Pass,
-    mut watch: W,
+    tools: WriterTools<'_, D, W>,
 ) {
-    let ends = &post.spool_ends;
+    let WriterTools {
+        spool,
+        texts,
+        mut pass,
+        mut watch,
+    } = tools;
+    let (texts, ends) = (texts.as_slice(), &post.spool_ends);
     serve_spool(rt, alloc, texts, hub, &mut pass, spool, &mut watch, ends);
 }
 
@@ -109,88 +122,21 @@ fn write_down_at<F: HubNames, G: Names, D: Disk, L: Link, W: Watch, R: Wait + Cl
         spool,
         ..
     } = shared;
-    let texts = texts.as_slice();
+    let tools = WriterTools {
+        spool,
+        texts,
+        pass,
+        watch,
+    };
     match hub {
-        0 => write_down(
-            rt,
-            alloc,
-            &hubs.hub0,
-            &posts.post0,
-            spool,
-            texts,
-            pass,
-            watch,
-        ),
-        1 => write_down(
-            rt,
-            alloc,
-            &hubs.hub1,
-            &posts.post1,
-            spool,
-            texts,
-            pass,
-            watch,
-        ),
-        2 => write_down(
-            rt,
-            alloc,
-            &hubs.hub2,
-            &posts.post2,
-            spool,
-            texts,
-            pass,
-            watch,
-        ),
-        3 => write_down(
-            rt,
-            alloc,
-            &hubs.hub3,
-            &posts.post3,
-            spool,
-            texts,
-            pass,
-            watch,
-        ),
-        4 => write_down(
-            rt,
-            alloc,
-            &hubs.hub4,
-            &posts.post4,
-            spool,
-            texts,
-            pass,
-            watch,
-        ),
-        5 => write_down(
-            rt,
-            alloc,
-            &hubs.hub5,
-            &posts.post5,
-            spool,
-            texts,
-            pass,
-            watch,
-        ),
-        6 => write_down(
-            rt,
-            alloc,
-            &hubs.hub6,
-            &posts.post6,
-            spool,
-            texts,
-            pass,
-            watch,
-        ),
-        _ => write_down(
-            rt,
-            alloc,
-            &hubs.hub7,
-            &posts.post7,
-            spool,
-            texts,
-            pass,
-            watch,
-        ),
+        0 => write_down(rt, alloc, &hubs.hub0, &posts.post0, tools),
+        1 => write_down(rt, alloc, &hubs.hub1, &posts.post1, tools),
+        2 => write_down(rt, alloc, &hubs.hub2, &posts.post2, tools),
+        3 => write_down(rt, alloc, &hubs.hub3, &posts.post3, tools),
+        4 => write_down(rt, alloc, &hubs.hub4, &posts.post4, tools),
+        5 => write_down(rt, alloc, &hubs.hub5, &posts.post5, tools),
+        6 => write_down(rt, alloc, &hubs.hub6, &posts.post6, tools),
+        _ => write_down(rt, alloc, &hubs.hub7, &posts.post7, tools),
     }
 }
 
@@ -221,18 +167,31 @@ where
     Builder::new().stack_size(STACK).spawn(&rt, job).ok()
 }
 
+/// What a replayer works with.
+#[derive(Drop)]
+struct ReplayerTools<'a, D: Disk, L: Link, W: Watch> {
+    spool: &'a Mutex<Spool<D>>,
+    links: Vec<L>,
+    pass: Pass,
+    watch: W,
+}
+
 /// The work of the replayer.
 fn send_again<B: HubLedger, T: Ledger, D: Disk, L: Link, W: Watch, R: Wait>(
     rt: &R,
     alloc: Global,
     hub: &Hub<B, T>,
     post: &Post<L>,
-    spool: &Mutex<Spool<D>>,
-    links: &mut [L],
-    mut pass: Pass,
-    mut watch: W,
+    tools: ReplayerTools<'_, D, L, W>,
 ) {
+    let ReplayerTools {
+        spool,
+        mut links,
+        mut pass,
+        mut watch,
+    } = tools;
     let (lanes, ends) = (&post.lanes, &post.work_ends);
+    let links = links.as_mut_slice();
     serve_replay(
         rt, alloc, hub, lanes, &mut pass, spool, links, &mut watch, ends,
     );
@@ -244,7 +203,7 @@ fn send_again_at<F: HubNames, G: Names, D: Disk, L: Link, W: Watch, R: Wait>(
     alloc: Global,
     shared: &Shared<F, G, D, L>,
     hub: usize,
-    mut links: Vec<L>,
+    links: Vec<L>,
     pass: Pass,
     watch: W,
 ) {
@@ -254,88 +213,21 @@ fn send_again_at<F: HubNames, G: Names, D: Disk, L: Link, W: Watch, R: Wait>(
         spool,
         ..
     } = shared;
-    let links = links.as_mut_slice();
+    let tools = ReplayerTools {
+        spool,
+        links,
+        pass,
+        watch,
+    };
     match hub {
-        0 => send_again(
-            rt,
-            alloc,
-            &hubs.hub0,
-            &posts.post0,
-            spool,
-            links,
-            pass,
-            watch,
-        ),
-        1 => send_again(
-            rt,
-            alloc,
-            &hubs.hub1,
-            &posts.post1,
-            spool,
-            links,
-            pass,
-            watch,
-        ),
-        2 => send_again(
-            rt,
-            alloc,
-            &hubs.hub2,
-            &posts.post2,
-            spool,
-            links,
-            pass,
-            watch,
-        ),
-        3 => send_again(
-            rt,
-            alloc,
-            &hubs.hub3,
-            &posts.post3,
-            spool,
-            links,
-            pass,
-            watch,
-        ),
-        4 => send_again(
-            rt,
-            alloc,
-            &hubs.hub4,
-            &posts.post4,
-            spool,
-            links,
-            pass,
-            watch,
-        ),
-        5 => send_again(
-            rt,
-            alloc,
-            &hubs.hub5,
-            &posts.post5,
-            spool,
-            links,
-            pass,
-            watch,
-        ),
-        6 => send_again(
-            rt,
-            alloc,
-            &hubs.hub6,
-            &posts.post6,
-            spool,
-            links,
-            pass,
-            watch,
-        ),
-        _ => send_again(
-            rt,
-            alloc,
-            &hubs.hub7,
-            &posts.post7,
-            spool,
-            links,
-            pass,
-            watch,
-        ),
+        0 => send_again(rt, alloc, &hubs.hub0, &posts.post0, tools),
+        1 => send_again(rt, alloc, &hubs.hub1, &posts.post1, tools),
+        2 => send_again(rt, alloc, &hubs.hub2, &posts.post2, tools),
+        3 => send_again(rt, alloc, &hubs.hub3, &posts.post3, tools),
+        4 => send_again(rt, alloc, &hubs.hub4, &posts.post4, tools),
+        5 => send_again(rt, alloc, &hubs.hub5, &posts.post5, tools),
+        6 => send_again(rt, alloc, &hubs.hub6, &posts.post6, tools),
+        _ => send_again(rt, alloc, &hubs.hub7, &posts.post7, tools),
     }
 }
 
