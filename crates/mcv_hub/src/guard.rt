@@ -108,7 +108,7 @@ impl<'a, B: HubLedger, T: Ledger> Guard<'a, B, T> {
         self.state.gate(alloc)
     }
 
-    /// Whether a call has waited for the next chapter in vain, in this one.
+    /// Whether a call has waited for the next chapter in vain, in this one; once this one is nearly full, whether a second has.
     pub(crate) fn was_awaited_in_vain(&self) -> bool {
         self.state.was_awaited_in_vain()
     }

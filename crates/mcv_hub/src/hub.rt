@@ -188,7 +188,8 @@ impl<B: HubLedger, T: Ledger> Hub<B, T> {
 
     /// Waits until a call may begin: where the next chapter is due, until nothing is left of this one. The first that finds
     /// nothing left begins the next chapter (Turned), and is to ring that bell once it has let go of the lock. A call that has
-    /// waited for as long as this in vain (Closed) begins in this chapter, and so do all others at once until the next one.
+    /// waited for as long as this in vain (Closed) begins in this chapter, and so do all others at once; when three quarters of
+    /// it are taken they wait once more, since slow calls may have ended meanwhile.
     pub fn enter<'a, R: Wait + Clock>(
         &self,
         rt: &R,

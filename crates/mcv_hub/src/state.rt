@@ -38,6 +38,9 @@ const ENTRY_LIMIT: usize = 1_000_000;
 /// The bytes of a history from which on the next chapter is due: 64 MiB.
 const DUE_BYTES: u64 = 64 << 20;
 
+/// The bytes of a history from which on its chapter is nearly full: 160 MiB, halfway from where the next one is due.
+const NEARLY_FULL_BYTES: u64 = 160 << 20;
+
 /// The bytes of a history beyond which no call begins: 256 MiB.
 const MOST_BYTES: u64 = 256 << 20;
 
@@ -65,8 +68,8 @@ pub struct HubState<B: HubLedger, T: Ledger> {
     taken: Book<T>,
     begun_before: u64,
     taken_before: u64,
-    /// Whether a call has waited for the next chapter in vain.
-    awaited_in_vain: bool,
+    /// How often a call has waited for the next chapter in vain.
+    vain_waits: u8,
 }
 
 impl<B: HubLedger, T: Ledger> Model for HubState<B, T> {
@@ -200,7 +203,7 @@ impl<B: HubLedger, T: Ledger> HubState<B, T> {
             taken,
             begun_before: 0,
             taken_before: 0,
-            awaited_in_vain: false,
+            vain_waits: 0,
         };
         Ok((state, begun_share, taken_share))
     }
@@ -433,20 +436,31 @@ impl<B: HubLedger, T: Ledger> HubState<B, T> {
         self.entries_before = before;
         self.begun_before = begun;
         self.taken_before = taken;
-        self.awaited_in_vain = false;
+        self.vain_waits = 0;
         Ok(past)
     }
 
-    /// Whether a call has waited for the next chapter in vain, in this one.
+    /// Whether three quarters of the room for entries that the chapter began with are taken, or its history holds 160 MiB.
+    fn is_nearly_full(&self) -> bool {
+        let room = ENTRY_LIMIT.saturating_sub(self.entries_before);
+        let left = ENTRY_LIMIT.saturating_sub(self.core.state().entries());
+        left <= room / 4 || self.history.bytes() >= NEARLY_FULL_BYTES
+    }
+
+    /// Whether a call has waited for the next chapter in vain, in this one; once this one is nearly full, whether a second has.
     pub(crate) fn was_awaited_in_vain(&self) -> bool {
-        self.awaited_in_vain
+        match self.vain_waits {
+            0 => false,
+            1 => !self.is_nearly_full(),
+            _ => true,
+        }
     }
 
     /// A call has waited for the next chapter in vain.
     pub(crate) fn note_vain_wait(&mut self)
         ensures { IsSame self.old self.new }
     {
-        self.awaited_in_vain = true;
+        self.vain_waits = self.vain_waits.saturating_add(1);
     }
 
     /// How many calls were begun and replies taken in all chapters.

@@ -1,7 +1,7 @@
 use Rattle.std.proofs.Common.{[]}
 use Rattle.std.specs.Arc.{arc_value}
 use Rattle.mcv_core.specs.Opening.{opened_view}
-use Rattle.mcv_core_tests.proofs.chapters.one_call_waits_for_a_chapter_in_vain.Given as goal
+use Rattle.mcv_core_tests.proofs.chapters.two_calls_wait_for_a_chapter_in_vain.Given as goal
 
 -- the ledgers are those that the two blanks open
 abbrev pub ghosts-awaited_chapter-B-Ledger : goal.ghosts-awaited_chapter-B-Ledger
