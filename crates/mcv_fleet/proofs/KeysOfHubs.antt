@@ -1,9 +1,9 @@
 -- The hub of a key, and what a desk answers where all keys of a request have one.
-use Rattle.std.proofs.Common.{◌≡◌, ◌∙◌, ◌++◌, ◌<◌, ◌≤◌, ℕ, zero, suc, List, [], ◌∷◌, Option, None, Some, Result, Ok, Err, inl, inr, ap, arith, length, map, refl, subst, sym}
-use Rattle.std.specs.Prelude.{option_map, slice_get}
+use Rattle.std.proofs.Common.{◌≡◌, ◌∙◌, ◌++◌, ◌<◌, ◌≤◌, ℕ, zero, suc, List, [], ◌∷◌, Option, None, Some, Result, Ok, Err, inl, inr, ap, arith, get_or, length, map, refl, subst, sym}
+use Rattle.std.specs.Prelude.{OnOk, option_map, slice_get}
 use Rattle.std.specs.List.{All}
 use Rattle.std.proofs.lemmas.List.Elements.{All-cons, All-get_or, All-nil, All-push}
-use Rattle.std.proofs.lemmas.Option.{get_or_from_slice_get, slice_get-map, slice_get_within}
+use Rattle.std.proofs.lemmas.Option.{get_or_from_slice_get, slice_get-get_or, slice_get-map, slice_get_within}
 use Rattle.std.proofs.lemmas.Simd.{map-map}
 use Rattle.mcv_base.specs.Key.{IsCut, IsKeyFault}
 use Rattle.mcv_base.specs.Reply.{ReplyValue, part_value}
@@ -125,7 +125,7 @@ module _ (opened_of : ℕ → CoreView) (hubs : ℕ) (request : Request) where
   pub none_for_keys : (taken : List TakenReply) → taken ≡ [] → AreForKeys opened_of hubs (request_value request) taken
   none_for_keys taken e = subst (AreForKeys opened_of hubs (request_value request)) (sym e) (record { each = All-nil (WasTakenOf opened_of hubs); for_keys = λ key t there. no_some there })
 
-  pub one_more_for_keys : OneReading → NoRestReadsEmpty → (taken after : List TakenReply) (key : ℕ) (c : HubCall) (t : TakenReply) → length taken ≡ key → after ≡ taken ++ t ∷ [] → IsHubOf hubs request key c.hub → IsReplyFor (opened_of c.hub) (request_value request) key t
+  one_more_for_keys : OneReading → NoRestReadsEmpty → (taken after : List TakenReply) (key : ℕ) (c : HubCall) (t : TakenReply) → length taken ≡ key → after ≡ taken ++ t ∷ [] → IsHubOf hubs request key c.hub → IsReplyFor (opened_of c.hub) (request_value request) key t
       → AreForKeys opened_of hubs (request_value request) taken → AreForKeys opened_of hubs (request_value request) after
   one_more_for_keys one empty taken after key c t len e of_key reply h =
       let value = request_value request in
@@ -134,8 +134,23 @@ module _ (opened_of : ℕ → CoreView) (hubs : ℕ) (request : Request) where
       let for_key : IsForOf opened_of hubs value key t = subst (λ k. IsFor (opened_of k).routes value key t) (sym same) reply.for_key in
       subst (AreForKeys opened_of hubs value) (sym e) (record { each = All-push (WasTakenOf opened_of hubs) taken t h.each was; for_keys = at_push (IsForOf opened_of hubs value) taken key t len h.for_keys for_key })
 
-  pub untaken_refused : (key : ℕ) (c : HubCall) (fault : CoreFault) → IsBegunAt opened_of hubs request key c → IsUntaken (opened_of c.hub) (request_value request) key c.call fault → IsKeyRefused opened_of hubs request fault
+  untaken_refused : (key : ℕ) (c : HubCall) (fault : CoreFault) → IsBegunAt opened_of hubs request key c → IsUntaken (opened_of c.hub) (request_value request) key c.call fault → IsKeyRefused opened_of hubs request fault
   untaken_refused key c fault begun why = record { key = key; hub = c.hub; there = begun.there; of_key = begun.of_key; why = untaken c.call begun.was why }
+
+  -- the call for a key
+  call_at : (calls : List HubCall) (key : ℕ) (d : HubCall) → key < length calls → AreBegunAt opened_of hubs request calls → IsBegunAt opened_of hubs request key (get_or calls key d)
+  call_at calls key d within began = began key (get_or calls key d) (slice_get-get_or calls key d within)
+
+  pub one_of_eight : (calls : List HubCall) (key : ℕ) (d : HubCall) → key < length calls → hubs ≤ 8 → AreBegunAt opened_of hubs request calls → (get_or calls key d).hub < 8
+  one_of_eight calls key d within most began = let there = (call_at calls key d within began).there in omega (arith, there, most)
+
+  pub one_more_reply : OneReading → NoRestReadsEmpty → (calls : List HubCall) (taken after : List TakenReply) (key : ℕ) (d : HubCall) (t : TakenReply) → key < length calls → AreBegunAt opened_of hubs request calls → length taken ≡ key → after ≡ taken ++ t ∷ []
+      → IsReplyFor (opened_of (get_or calls key d).hub) (request_value request) key t → AreForKeys opened_of hubs (request_value request) taken → AreForKeys opened_of hubs (request_value request) after
+  one_more_reply one empty calls taken after key d t within began len e reply h = one_more_for_keys one empty taken after key (get_or calls key d) t len e (call_at calls key d within began).of_key reply h
+
+  pub no_reply_at : (calls : List HubCall) (key : ℕ) (d : HubCall) (fault : CoreFault) → key < length calls → AreBegunAt opened_of hubs request calls → IsUntaken (opened_of (get_or calls key d).hub) (request_value request) key (get_or calls key d).call fault
+      → IsKeyRefused opened_of hubs request fault
+  no_reply_at calls key d fault within began why = untaken_refused key (get_or calls key d) fault (call_at calls key d within began) why
 
   -- what a client is answered
   pub answered_each : (taken : List TakenReply) (parts : List Part) → AreForKeys opened_of hubs (request_value request) taken → length taken ≡ length (keys_of (request_value request)) → parts ≡ map (λ t. t.reply) taken → AreOfHubs opened_of hubs (request_value request) (map part_value parts)
@@ -143,3 +158,8 @@ module _ (opened_of : ℕ → CoreView) (hubs : ℕ) (request : Request) where
 
   pub refused_each : (cause : CoreFault) (fault : DeskFault) → fault ≡ desk_fault cause → IsKeyRefused opened_of hubs request cause → AsksHubs opened_of hubs (request_value request) (Err fault)
   refused_each cause fault is refused = inr (inr (record { asked = request; its = refl; cause = cause; is = is; refused = refused }))
+
+-- what follows of an answer that is Ok
+pub on_ok : {A B X Y : Type 0} (r : Result A B) → (X → Y) → OnOk r X → OnOk r Y
+on_ok (Ok v) f x = f x
+on_ok (Err fault) f x = tt

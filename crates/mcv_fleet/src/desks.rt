@@ -45,9 +45,11 @@ pub struct HubsDesk<'a, F: HubNames, G: Names, L: Link, W: Watch, R: Wait + Cloc
     desk7: HubDesk<'a, At<F, 7>, At<G, 7>, L, Moment, R>,
 }
 
-/// What the calls for the keys of one request are kept in.
+/// The keys of one request, and what the calls for them are kept in.
 #[derive(Drop)]
 struct Room {
+    /// Each key alone.
+    of_keys: Vec<Arc<Request>>,
     calls: Vec<HubCall>,
     /// The reply that is taken just now.
     one: Vec<TakenReply>,
@@ -56,15 +58,18 @@ struct Room {
 }
 
 impl Room {
-    /// Room for so many calls.
-    fn new(alloc: Global, count: usize) -> Result<Room, AllocError>
-        ensures { IfOk result (IsRoomFor count) }
+    /// The keys of a request, and room for a call for each of them.
+    fn new(alloc: Global, request: &Request) -> Result<Room, AllocError>
+        ensures { IfOk result (IsRoomFor (request_value request.now)) }
     {
+        let of_keys = requests_of_keys(alloc, request)?;
+        let count = key_count(request);
         let calls = Vec::with_capacity(alloc, count)?;
         let one = Vec::with_capacity(alloc, 1)?;
         let taken = Vec::with_capacity(alloc, count)?;
         let parts = Vec::with_capacity(alloc, count)?;
         Ok(Room {
+            of_keys,
             calls,
             one,
             taken,
@@ -370,22 +375,22 @@ impl<'a, F: HubNames, G: Names, L: Link, W: Watch, R: Wait + Clock> HubsDesk<'a,
         &mut self,
         moment: Moment,
         request: &Request,
-        of_keys: &[Arc<Request>],
         room: &mut Room,
     ) -> Result<(), CoreFault>
-        requires of_keys { AreOfKeys (request_value request.now) of_keys.now }
-        requires room { IsRoomFor (length (keys_of (request_value request.now))) room.old }
+        requires { IsRoomFor (request_value request.now) room.old }
         ensures taken { OnOk result (AreForKeys F.opened_of self.old.choice.now (request_value request.now) room.new.taken.items) }
         ensures all { OnOk result (vec_len room.new.taken ≡ length (keys_of (request_value request.now))) }
         ensures parts { (room.new.parts.items ≡ room.old.parts.items) × (vec_capacity room.new.parts ≡ vec_capacity room.old.parts) }
         ensures err { IfErr result (IsKeyRefused F.opened_of self.old.choice.now request.now) }
     {
         let Room {
+            of_keys,
             calls,
             one,
             taken,
             ..
         } = room;
+        let of_keys = of_keys.as_slice();
         let choice = self.choice;
         self.enter_each(choice, request);
         let begun = self.begin_each(choice, moment, request, of_keys, calls);
@@ -401,13 +406,10 @@ impl<'a, F: HubNames, G: Names, L: Link, W: Watch, R: Wait + Clock> HubsDesk<'a,
         ensures asks { AsksHubs F.opened_of self.old.choice.now (request_value request.now) (answer_value result) }
         ensures each { HasOneEach (request_value request.now) (answer_value result) }
     {
-        let Ok(of_keys) = requests_of_keys(self.alloc, request) else {
+        let Ok(mut room) = Room::new(self.alloc, request) else {
             return Err(DeskFault::Memory);
         };
-        let Ok(mut room) = Room::new(self.alloc, key_count(request)) else {
-            return Err(DeskFault::Memory);
-        };
-        match self.take_replies(moment, request, of_keys.as_slice(), &mut room) {
+        match self.take_replies(moment, request, &mut room) {
             Ok(()) => {
                 let Room { taken, parts, .. } = room;
                 Ok(into_parts(taken, parts))
