@@ -21,8 +21,8 @@ loop-key-preserved c =
     let before = c.loop-key.requests.items in
     let key = c.loop-key.key in
     let one = c.in_ok-shared.shared in
-    let its : P key one = ap request_value c.in_ok-shared.ensures ∙ c.in_ok-alone.ensures in
-    let items : c.push.new.self.items ≡ before ++ one ∷ [] = search rules in
+    let its : P key one = ap request_value c.in_ok-shared.ensures.ok ∙ c.in_ok-alone.ensures in
+    let items : c.push.new.self.items ≡ before ++ one ∷ [] = c.in_ok-push.ensures.items in
     let len : length before ≡ key = search rules in
     let Q : List (Arc Request Global) → Type 0 = λ xs. (k : ℕ) (r : Arc Request Global) → slice_get xs k ≡ Some r → P k r in
     record {
