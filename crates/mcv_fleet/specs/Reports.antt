@@ -1,5 +1,5 @@
 -- What a proxy reports once its sessions have ended (own).
-use Rattle.std.specs.Prelude.{ℕ, List, Result, Ok}
+use Rattle.std.specs.Prelude.{ℕ, List, Ok}
 use Rattle.mcv_hub.specs.declared.receipts.Receipt.{Receipt}
 use Rattle.mcv_hub.specs.declared.receipts.Report.{Report}
 use Rattle.mcv_hubs.specs.Counts.{Tally}

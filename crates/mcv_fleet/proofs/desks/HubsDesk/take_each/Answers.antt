@@ -1,7 +1,6 @@
-use Rattle.std.proofs.Common.{◌≡◌, ◌∙◌, ◌++◌, ◌≤◌, [], ◌∷◌, None, ap, arith, length, rules, subst, sym}
+use Rattle.std.proofs.Common.{◌≡◌, ◌∙◌, ◌++◌, ◌≤◌, [], ◌∷◌, ap, arith, length, rules, subst, sym}
 use Rattle.std.specs.Prelude.{IfSome, vec_len}
 use Rattle.std.proofs.lemmas.Grind.{common_steps}
-use Rattle.mcv_text.specs.Request.{request_value}
 use Rattle.mcv_fleet.specs.Desks.{IsKeyRefused}
 use Rattle.mcv_fleet.proofs.KeysOfHubs.{no_reply_at, none_for_keys, one_more_reply, one_of_eight}
 use Rattle.mcv_fleet.proofs.desks.HubsDesk.take_each.Goals as goal

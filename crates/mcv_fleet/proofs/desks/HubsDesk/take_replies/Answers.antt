@@ -1,4 +1,4 @@
-use Rattle.std.proofs.Common.{◌≡◌, List, Global, ap, arith, length, sym, subst}
+use Rattle.std.proofs.Common.{List, Global, ap, arith, length, sym, subst}
 use Rattle.std.specs.declared.sync.Arc.{Arc}
 use Rattle.std.proofs.lemmas.Result.{err_from_is_err_and}
 use Rattle.mcv_base.specs.declared.request.Request.{Request}

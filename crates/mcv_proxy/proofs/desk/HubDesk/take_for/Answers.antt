@@ -1,4 +1,4 @@
-use Rattle.std.proofs.Common.{◌≡◌, ◌∙◌, ◌∷◌, [], inl, length, map, rules}
+use Rattle.std.proofs.Common.{◌≡◌, inl, length, rules}
 use Rattle.mcv_text.specs.Request.{request_value}
 use Rattle.mcv_proxy.proofs.Taken.{call_of_reply, one_call_has_one_reply, one_was_missing, reply_of_one, untaken_of_one}
 use Rattle.mcv_proxy.proofs.desk.HubDesk.take_for.Goals as goal
