@@ -1,10 +1,11 @@
 -- What the program does for the words of a command line.
-use Rattle.std.specs.Prelude.{◌≡◌, ◌⊎◌, ℕ, Bool, List, Option, Some, None, IfSome, MatchOption, codes, take, if◌then◌else◌, ⊤, true, false}
+use Rattle.std.specs.Prelude.{◌≡◌, ◌≢◌, ◌⊎◌, ℕ, Bool, List, [], Option, Some, None, IfSome, MatchOption, codes, take, if◌then◌else◌, ⊤, true, false}
 use Rattle.std.specs.Io.KnownBytes.{Appends}
-use Rattle.clap.specs.Words.{IsAmong, Text}
+use Rattle.clap.specs.Words.{IsAmong, Row, Text, one_of}
 use Rattle.clap.specs.declared.error.kind.ErrorKind.TheVariants.{DisplayHelp, DisplayVersion}
 use Rattle.mcv_base.specs.declared.request.Moment.{Moment}
 use Rattle.mcv_input.specs.Fault.{AreNamedBy, IsOutside}
+use Rattle.mcv_input.specs.declared.fault.RunFault.TheVariants as run_faults
 use Rattle.mcv_legs.specs.Answer.{IsAnswer}
 use Rattle.mcv_legs.specs.Fault as legs
 use Rattle.mcv_mend.specs.Mending.{IsMendFault, IsMendingOn}
@@ -15,14 +16,15 @@ use Rattle.mcv_records.specs.Text.{records_text, slot_lines}
 use Rattle.mcv_records.specs.declared.list.Shown.{Shown}
 use Rattle.mcv_records.specs.declared.list.Shown.TheVariants.{Pending, All}
 use Rattle.mcv_route.specs.Routes.{RoutesValue, within}
-use Rattle.mcv_show.specs.Explained.{IsVerdictAs}
+use Rattle.mcv_show.specs.AsAsked.{IsVerdictAs}
+use Rattle.mcv_show.specs.Reported.{IsFaultText}
 use Rattle.mcv_spool.specs.File.{damage, slots}
 use Rattle.mcv_symbolic.specs.CoveredRoutes.{AreCovered}
 use Rattle.mcv_verdict.specs.Fault as check
 use Rattle.mcv_verdict.specs.Verdict.{IsVerdictOn}
 use Rattle.mcv_verdict.specs.declared.verdict.Verdict.{Verdict}
 use Rattle.mcv_verdict.specs.declared.verdict.Verdict.TheVariants as verdicts
-use Rattle.mcv_words.specs.Words.{AsksCheck, AsksMend, AsksRun, AsksSpool, IsJobOf, IsLineFault, RunOrder, SpoolOrder, faults}
+use Rattle.mcv_words.specs.Words.{AsksCheck, AsksMend, AsksRun, AsksSpool, IsJobOf, IsLineFault, RunOrder, SpoolOrder, faults, named}
 use Rattle.mcv_words.specs.declared.options.CheckOptions.{CheckOptions}
 use Rattle.mcv_words.specs.declared.words.Job.TheVariants as jobs
 use Rattle.mcv_words.specs.declared.words.LineFault.TheVariants as line_fault
@@ -119,6 +121,23 @@ IsListingStop (Run fault) = IsOutside fault
 IsListingStop (Mended fault) = ⊥
 IsListingStop NoChange = ⊥
 IsListingStop (Damaged slot) = ⊤
+
+-- the words ask for a verdict as a report, which a fault of the configuration or of the certificate has, too
+abbrev pub AsksReport : List Text → Type 0
+AsksReport words = (cert : Option Text) × (options : CheckOptions) × AsksCheck words cert options × (options.json ≡ true)
+
+-- the words name `check`, and clap reads their `--json` as given
+abbrev pub GivesJson : List Text → Type 0
+GivesJson words = (faults words ≡ []) × (rows : List Row) × (named words ≡ Some (codes "check", rows)) × (one_of (codes "json") rows ≡ Some (codes "true"))
+
+-- the report on the fault was written; of the input the first bytes are looked at, one more than a configuration may have. Where memory ran out or a device failed, there may be none
+abbrev pub IsReportedStop : (input old new : Option Text) → Stop → Type 0
+IsReportedStop input old new BadLine = ⊤
+IsReportedStop input old new (Damaged slot) = ⊤
+IsReportedStop input old new (Run fault) =
+    fault ≢ run_faults.Memory → fault ≢ run_faults.Device → (text : Text) × IfSome input (λ bytes. IsFaultText (take 16777217 bytes) fault text) × Appends old new text
+IsReportedStop input old new (Mended fault) = ⊤
+IsReportedStop input old new NoChange = ⊤
 
 -- the words ask for the records of a spool's file
 abbrev pub AsksAnySpool : List Text → Type 0

@@ -1,7 +1,7 @@
 //! The program, over any reader and writer in place of standard input and output, any files and any proxy.
 
-ghost use Rattle.std.specs.Prelude.{◌≡◌, ◌≢◌, ℕ, None, Some, Err, IfErr, IfOk, map};
-ghost use Rattle.mcv_command.specs.Program.{AsksAnyRun, AsksAnySpool, Held, IsDone, IsJudgedAs, IsJudgingFault, IsListed, IsListedTo, IsListingStop, IsMended, IsMendedAs, IsMendingStop, IsPatched, IsServed, IsStop, ending_of, shown_of};
+ghost use Rattle.std.specs.Prelude.{◌≡◌, ◌≢◌, ℕ, None, Some, Err, false, true, IfErr, IfOk, map};
+ghost use Rattle.mcv_command.specs.Program.{AsksAnyRun, AsksAnySpool, AsksReport, GivesJson, Held, IsDone, IsJudgedAs, IsJudgingFault, IsListed, IsListedTo, IsListingStop, IsMended, IsMendedAs, IsMendingStop, IsPatched, IsReportedStop, IsServed, IsStop, ending_of, shown_of};
 ghost use Rattle.mcv_command.specs.declared.stop.Stop.TheVariants.{Run, Damaged};
 ghost use Rattle.mcv_input.specs.declared.fault.RunFault.TheVariants.{Device, Memory};
 ghost use Rattle.mcv_words.specs.Words.{AsksSpool, SpoolOrder, order_of, spool_order_of};
@@ -43,7 +43,8 @@ fn judge<R: Read, W: Write>(
 ) -> Result<Ending, Stop>
     ensures done { (held : Held) → IfOk result (IsJudgedAs options held None (R.remaining reader.old) (W.contents writer.old) (W.contents writer.new)) }
     ensures stop { (held : Held) → IfErr result (IsJudgingFault held None options.window.seconds (R.remaining reader.old)) }
-    ensures silent { IfErr result (λ stop. stop ≢ Run Device → W.contents writer.new ≡ W.contents writer.old) }
+    ensures silent { options.json ≡ false → IfErr result (λ stop. stop ≢ Run Device → W.contents writer.new ≡ W.contents writer.old) }
+    ensures reported { options.json ≡ true → IfErr result (IsReportedStop (R.remaining reader.old) (W.contents writer.old) (W.contents writer.new)) }
 {
     let verdict = run_check_as(alloc, reader, writer, None, options)?;
     Ok(ending_of(verdict))
@@ -60,7 +61,8 @@ fn judge_by<R: Read, W: Write, F: NamedFiles>(
 ) -> Result<Ending, Stop>
     ensures done { IfOk result (IsJudgedAs options (F.held files.now) (Some name.now) (R.remaining reader.old) (W.contents writer.old) (W.contents writer.new)) }
     ensures stop { IfErr result (IsJudgingFault (F.held files.now) (Some name.now) options.window.seconds (R.remaining reader.old)) }
-    ensures silent { IfErr result (λ stop. stop ≢ Run Device → W.contents writer.new ≡ W.contents writer.old) }
+    ensures silent { options.json ≡ false → IfErr result (λ stop. stop ≢ Run Device → W.contents writer.new ≡ W.contents writer.old) }
+    ensures reported { options.json ≡ true → IfErr result (IsReportedStop (R.remaining reader.old) (W.contents writer.old) (W.contents writer.new)) }
 {
     let text = files.read_named(alloc, name, CERTIFICATE_LIMIT)?;
     let verdict = run_check_as(alloc, reader, writer, Some(text.as_slice()), options)?;
@@ -181,7 +183,9 @@ pub fn run_words<'a, R: Read, W: Write, F: NamedFiles, P: Proxy>(
         (W.contents writer.old) (W.contents writer.new)) }
     ensures stop { IfErr result (IsStop (map (λ w. w.now) words.entry.now) (F.held files.now) (R.remaining reader.old)) }
     ensures silent { IfErr result (λ stop. stop ≢ Run Device → (stop ≡ Run Memory → ¬ AsksAnyRun (map (λ w. w.now) words.entry.now))
-        → ¬ AsksAnySpool (map (λ w. w.now) words.entry.now) → W.contents writer.new ≡ W.contents writer.old) }
+        → ¬ AsksAnySpool (map (λ w. w.now) words.entry.now) → ¬ AsksReport (map (λ w. w.now) words.entry.now)
+        → W.contents writer.new ≡ W.contents writer.old) }
+    ensures reported { GivesJson (map (λ w. w.now) words.entry.now) → IfErr result (IsReportedStop (R.remaining reader.old) (W.contents writer.old) (W.contents writer.new)) }
     ensures listed { (slot : ℕ) → result ≡ Err (Damaged slot) → (order : SpoolOrder) × AsksSpool (map (λ w. w.now) words.entry.now) order
         × IsListedTo slot (F.held files.now) order (W.contents writer.old) (W.contents writer.new) }
 {

@@ -38,6 +38,7 @@ mcv check a.cert: bad line
 mcv check --explain: check 0, explained
 mcv check --explain -q --window 60: check 60, explained, quietly
 mcv check --quiet --cert a.cert: check 0 by a.cert, quietly
+mcv check --json --window 60: check 60, as JSON
 mcv check --explain --explain: bad line
 mcv check --explain=yes: bad line
 mcv check --at 1: bad line
@@ -186,11 +187,13 @@ fn job_text(rt: &(impl AllocGlobal + Abort), job: Job<'_>) -> String {
 }
 
 fn options_text(options: CheckOptions) -> &'static str {
-    match (options.explain, options.quiet) {
-        (false, false) => "",
-        (true, false) => ", explained",
-        (false, true) => ", quietly",
-        (true, true) => ", explained, quietly",
+    match (options.explain, options.json, options.quiet) {
+        (false, false, false) => "",
+        (true, false, false) => ", explained",
+        (false, false, true) => ", quietly",
+        (true, false, true) => ", explained, quietly",
+        (false, true, false) => ", as JSON",
+        (_, true, _) => ", otherwise",
     }
 }
 
@@ -349,8 +352,9 @@ const MAIN_PARTS: &[&str] = &[
 ];
 
 const CHECK_PARTS: &[&str] = &[
-    "Usage: mcv check [--cert FILE] [--window SECONDS] [--explain] [-q] < FILE",
+    "Usage: mcv check [--cert FILE] [--window SECONDS] [--explain] [--json]\n                 [-q] < FILE",
     "--explain",
+    "--json",
     "-q, --quiet",
     "--cert <FILE>",
     "--window <SECONDS>",

@@ -260,6 +260,10 @@ explain_absent : flag_of (codes "explain") (named (codes "mcv" ∷ codes "check"
 unfolding clap_on_literals
 explain_absent = refl
 
+json_named : flag_of (codes "json") (named (codes "mcv" ∷ codes "check" ∷ codes "--json" ∷ [])) ≡ Some (Some (codes "true"))
+unfolding clap_on_literals
+json_named = refl
+
 quiet_named : flag_of (codes "quiet") (named (codes "mcv" ∷ codes "check" ∷ codes "-q" ∷ [])) ≡ Some (Some (codes "true"))
 unfolding clap_on_literals
 quiet_named = refl

@@ -437,6 +437,10 @@ explain_tame : IsTame check (with_index 1 (filled (flag_rule (codes "explain")))
 explain_tame [] rows none good = written check.rules (codes "explain") (codes "true") [] rows refl good
 explain_tame (v ∷ vs) rows none good = absurd (no_value_for_flag (length vs) (none_of (range_kinds 0 0 (suc (length vs))) (set_fault false (with_index 1 (filled (flag_rule (codes "explain")))) (v ∷ vs) rows) none).0)
 
+json_tame : IsTame check (with_index 1 (filled (flag_rule (codes "json"))))
+json_tame [] rows none good = written check.rules (codes "json") (codes "true") [] rows refl good
+json_tame (v ∷ vs) rows none good = absurd (no_value_for_flag (length vs) (none_of (range_kinds 0 0 (suc (length vs))) (set_fault false (with_index 1 (filled (flag_rule (codes "json")))) (v ∷ vs) rows) none).0)
+
 quiet_tame : IsTame check (with_index 1 (filled quiet_rule))
 quiet_tame [] rows none good = written check.rules (codes "quiet") (codes "true") [] rows refl good
 quiet_tame (v ∷ vs) rows none good = absurd (no_value_for_flag (length vs) (none_of (range_kinds 0 0 (suc (length vs))) (set_fault false (with_index 1 (filled quiet_rule)) (v ∷ vs) rows) none).0)
@@ -449,18 +453,21 @@ HasWindow = HasNumber (codes "window") 0 window_limit
 
 check_given : (words : List Text) → level_fault check [] nothing_held words false [] ≡ [] → HasWindow (rows_after check.rules [] words)
 check_given words none =
-    let tame : AreTame check check.rules = (cert_tame, (check_window_tame, (explain_tame, (quiet_tame, (check_help, tt))))) in
+    let tame : AreTame check check.rules = (cert_tame, (check_window_tame, (explain_tame, (json_tame, (quiet_tame, (check_help, tt)))))) in
     let start : List Row = (settled check.rules (walk check.rules [] nothing_held words).held).rows in
     let given : List Row = with_default start (with_index 1 (filled cert_rule)) in
     let windowed : List Row = with_default given (with_index 1 (filled window_rule)) in
     let explained : List Row = with_default windowed (with_index 1 (filled (flag_rule (codes "explain")))) in
-    let after : List Row = with_default explained (with_index 1 (filled quiet_rule)) in
+    let reported : List Row = with_default explained (with_index 1 (filled (flag_rule (codes "json")))) in
+    let after : List Row = with_default reported (with_index 1 (filled quiet_rule)) in
     let same : given ≡ start = unchanged (has_row (codes "cert") start) start in
     let good = subst (λ (rows : List Row). AreGood check.rules rows) (sym same) (leaf_good check tame words none).0 in
     let first = defaulted check.rules (codes "window") (codes "0") given refl refl good in
     let second = defaulted check.rules (codes "explain") (codes "false") windowed refl refl first.0 in
-    let last = defaulted check.rules (codes "quiet") (codes "false") explained refl refl second.0 in
-    let has = kept (codes "window") (codes "quiet") (codes "false") explained (kept (codes "window") (codes "explain") (codes "false") windowed first.1) in
+    let third = defaulted check.rules (codes "json") (codes "false") explained refl refl second.0 in
+    let last = defaulted check.rules (codes "quiet") (codes "false") reported refl refl third.0 in
+    let has = kept (codes "window") (codes "quiet") (codes "false") reported
+    (kept (codes "window") (codes "json") (codes "false") explained (kept (codes "window") (codes "explain") (codes "false") windowed first.1)) in
     let found = found_value check.rules (codes "window") after has last.0 in
     subst HasWindow (sym (unchanged (has_row (codes "help") after) after)) (found.0, found.2, found.3)
 

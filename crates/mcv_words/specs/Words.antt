@@ -65,9 +65,10 @@ flag_rule name = record (new_rule name) {
 abbrev pub quiet_rule : Rule
 quiet_rule = record (flag_rule (codes "quiet")) { short = Some 113 }
 
--- `check [--cert FILE] [--window SECONDS] [--explain] [-q]`
+-- `check [--cert FILE] [--window SECONDS] [--explain] [--json] [-q]`
 abbrev pub check_app : App
-check_app = with_rule (with_rule (with_rule (with_rule (new_app (codes "check")) cert_rule) window_rule) (flag_rule (codes "explain"))) quiet_rule
+check_app =
+    with_rule (with_rule (with_rule (with_rule (with_rule (new_app (codes "check")) cert_rule) window_rule) (flag_rule (codes "explain"))) (flag_rule (codes "json"))) quiet_rule
 
 -- `mend [--patch]`
 abbrev pub mend_app : App
@@ -153,10 +154,10 @@ abbrev pub IsFlag : (flag : Text) → List Row → Bool → Type 0
 IsFlag flag rows b =
     (one_of flag rows ≡ Some (codes "true") → b ≡ true) × (one_of flag rows ≡ Some (codes "false") → b ≡ false) × (one_of flag rows ≡ None → b ≡ false)
 
--- the value of `--cert`, or none, that of `--window`, and whether `--explain` and `-q` are given
+-- the value of `--cert`, or none, that of `--window`, and whether `--explain`, `--json` and `-q` are given
 abbrev pub HasCheckValues : List Row → (cert : Option Text) → CheckOptions → Type 0
 HasCheckValues rows cert options = (cert ≡ first_of (codes "cert") rows) × IsNumberOf (codes "window") rows options.window.seconds
-    × IsFlag (codes "explain") rows options.explain × IsFlag (codes "quiet") rows options.quiet
+    × IsFlag (codes "explain") rows options.explain × IsFlag (codes "json") rows options.json × IsFlag (codes "quiet") rows options.quiet
 
 -- clap takes the words, and they name the command `check` with these values
 abbrev pub AsksCheck : List Text → (cert : Option Text) → CheckOptions → Type 0

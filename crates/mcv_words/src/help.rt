@@ -79,6 +79,8 @@ pub(crate) const CERT: &str = "A certificate in place of one that mcv makes";
 
 pub(crate) const EXPLAIN: &str = "The finding in sentences behind its text";
 
+pub(crate) const JSON: &str = "The verdict as JSON, or the fault in its place";
+
 pub(crate) const QUIET: &str = "One line on standard error for a fault, not two";
 
 pub(crate) const WINDOW: &str = "How many seconds may lie between a delete and a

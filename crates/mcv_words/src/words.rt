@@ -9,7 +9,7 @@ ghost use Rattle.mcv_words.specs.Words.{at_rule, cert_rule, check_app, client_ti
 ghost use Rattle.mcv_words.specs.declared.words.LineFault.TheVariants.{Memory as out_of_memory};
 
 use crate::help::{
-    ABOUT, ALL, AT, CERT, CHECK_ABOUT, CHECK_FORM, CLIENT_TIMEOUT, EXAMPLE, EXPLAIN, FILE,
+    ABOUT, ALL, AT, CERT, CHECK_ABOUT, CHECK_FORM, CLIENT_TIMEOUT, EXAMPLE, EXPLAIN, FILE, JSON,
     LEGS_ABOUT, LEGS_FORM, LISTEN, MAX_CLIENTS, MEND_ABOUT, MEND_FORM, PATCH, PROXIES, QUIET,
     RUN_ABOUT, RUN_FORM, SERVER_TIMEOUT, SESSIONS, SPOOL, SPOOL_ABOUT, SPOOL_FORM, WINDOW,
 };
@@ -152,11 +152,15 @@ fn check_command<'a>(alloc: Global) -> Result<Command<'a>, AllocError>
 {
     Command::new(alloc, "check")
         .about(CHECK_ABOUT)
-        .override_usage("mcv check [--cert FILE] [--window SECONDS] [--explain] [-q] < FILE")
+        .override_usage(
+            "mcv check [--cert FILE] [--window SECONDS] [--explain] [--json]
+                 [-q] < FILE",
+        )
         .after_help(CHECK_FORM)
         .arg(cert_option(alloc))?
         .arg(window_option(alloc))?
         .arg(flag(alloc, "explain", EXPLAIN))?
+        .arg(flag(alloc, "json", JSON))?
         .arg(quiet_flag(alloc))
 }
 
@@ -351,12 +355,14 @@ fn check_job<'a>(found: &ArgMatches<'a>) -> Result<Job<'a>, LineFault>
         return Err(LineFault::BadLine);
     };
     let explain = found.get_flag("explain");
+    let json = found.get_flag("json");
     let quiet = found.get_flag("quiet");
     Ok(Job::Check {
         cert,
         options: CheckOptions {
             window,
             explain,
+            json,
             quiet,
         },
     })
