@@ -1,8 +1,9 @@
 //! What a verdict marks in the trees of the routes.
 
-ghost use Rattle.std.specs.Prelude.{◌≡◌, ◌==◌, ◌++◌, ◌∷◌, [], IfOk, OnOk, map};
+ghost use Rattle.std.specs.Prelude.{◌≡◌, ◌==◌, ◌++◌, IfOk, OnOk, map};
 ghost use Rattle.mcv_draw.specs.Marks.{marks_of};
-ghost use Rattle.mcv_picture.specs.Drawing.{AreMarksFor, shown_legs};
+ghost use Rattle.mcv_picture.specs.Found.{Shows};
+ghost use Rattle.mcv_picture.specs.Drawing.{ShowsFinding, ShowsNothing, shown_legs};
 ghost use Rattle.mcv_witness.specs.Finding.{finding_of, outcomes_of};
 
 use mcv_base::Position;
@@ -29,6 +30,7 @@ pub(crate) fn marks_of(
     found: &Found<'_>,
     number: usize,
 ) -> Result<Marks, AllocError>
+    ensures { IfOk result (λ marks. Shows found.now number (marks_of marks)) }
 {
     match found {
         Found::Covered(certificate) => certified(alloc, pairs_of(certificate, number)),
@@ -46,7 +48,9 @@ fn pairs_of(certificate: &Certificate, number: usize) -> &[Pair] {
 }
 
 /// What the pairs of a route mark: the leaves that can be read, and the legs that their reasons name.
-fn certified(alloc: Global, pairs: &[Pair]) -> Result<Marks, AllocError> {
+fn certified(alloc: Global, pairs: &[Pair]) -> Result<Marks, AllocError>
+    ensures { IfOk result (λ marks. ShowsNothing (marks_of marks)) }
+{
     let mut deletes = Vec::new(alloc);
     let mut readable = Vec::with_capacity(alloc, pairs.len())?;
     for pair in pairs {
@@ -79,7 +83,7 @@ fn lost(
     finding: &Finding,
     number: usize,
 ) -> Result<Marks, AllocError>
-    ensures { IfOk result (λ marks. AreMarksFor (finding_of finding.now) number (marks_of marks)) }
+    ensures { IfOk result (λ marks. ShowsFinding (finding_of finding.now) number (marks_of marks)) }
 {
     if is_route_of(finding, number) {
         return found_marks(alloc, routes, finding);
@@ -97,7 +101,7 @@ fn is_route_of(finding: &Finding, number: usize) -> bool
 /// What a finding marks in the tree of its route: the legs that answer, the leaf whose server is lost, and what deletes
 /// and gets of its keys reach.
 fn found_marks(alloc: Global, routes: &Routes, finding: &Finding) -> Result<Marks, AllocError>
-    ensures { IfOk result (λ marks. AreMarksFor (finding_of finding.now) (finding_of finding.now).place.spot.route (marks_of marks)) }
+    ensures { IfOk result (λ marks. ShowsFinding (finding_of finding.now) (finding_of finding.now).place.spot.route (marks_of marks)) }
 {
     let shown = shown_legs(alloc, finding)?;
     let leaf = finding.place.leaf.copy(alloc)?;
@@ -106,7 +110,9 @@ fn found_marks(alloc: Global, routes: &Routes, finding: &Finding) -> Result<Mark
     Ok(Marks::new(deletes, readable, shown, Some(leaf)))
 }
 
+/// Nothing is marked.
 fn unmarked(alloc: Global) -> Marks
+    ensures { ShowsNothing (marks_of result) }
 {
     let deletes = Vec::new(alloc);
     let readable = Vec::new(alloc);

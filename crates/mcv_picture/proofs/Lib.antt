@@ -1,0 +1,2 @@
+mod RoutesInTurn
+mod Verdicts
