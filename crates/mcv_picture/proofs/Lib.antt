@@ -1,2 +1,3 @@
 mod RoutesInTurn
 mod Verdicts
+mod Marking

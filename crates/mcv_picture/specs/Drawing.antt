@@ -1,5 +1,5 @@
 -- What is drawn of a configuration (own).
-use Rattle.std.specs.Prelude.{◌≡◌, ◌==◌, ◌&&◌, ◌+◌, ℕ, Bool, true, false, List, [], ◌∷◌, ◌++◌, if◌then◌else◌, bytes_eq, length, map}
+use Rattle.std.specs.Prelude.{◌≡◌, ◌==◌, ◌+◌, ℕ, Bool, true, false, List, [], ◌∷◌, ◌++◌, if◌then◌else◌, bytes_eq, length, map}
 use Rattle.std.specs.List.{All, flat_map, slice_split}
 use Rattle.mcv_cert.specs.Pair.{CertificateValue}
 use Rattle.mcv_certify.specs.PickedReasons.{IsPickedOf}
@@ -23,15 +23,23 @@ use Rattle.mcv_witness.specs.Text.{finding_text}
 abbrev pub shown_legs : FindingValue → List (List ℕ)
 shown_legs f = map (λ e. e.0) f.deletes ++ map (λ e. e.0) f.gets ++ f.place.leaf ∷ []
 
--- in the tree of the finding's own route what is at one of these legs or above it is shown, and the leaf's server is said to be lost; in others nothing is
-pub record ShowsFinding (f : FindingValue) (number : ℕ) (m : MarksValue) : Type 0 where
-  pub shown : (p : List ℕ) → m.shown p ≡ (number == f.place.spot.route && leads_to (shown_legs f) p)
-  pub lost : (p : List ℕ) → m.lost p ≡ (number == f.place.spot.route && bytes_eq f.place.leaf p)
+-- what is at one of the legs or above it is shown, and the server of the leaf is said to be lost
+pub record ShowsLegs (legs : List (List ℕ)) (leaf : List ℕ) (m : MarksValue) : Type 0 where
+  pub shown : (p : List ℕ) → m.shown p ≡ leads_to legs p
+  pub lost : (p : List ℕ) → m.lost p ≡ bytes_eq leaf p
 
 -- nothing is shown, and no server is said to be lost
 pub record ShowsNothing (m : MarksValue) : Type 0 where
   pub shown : (p : List ℕ) → m.shown p ≡ false
   pub lost : (p : List ℕ) → m.lost p ≡ false
+
+abbrev pub ShowsIf : (is_own : Bool) → FindingValue → MarksValue → Type 0
+ShowsIf true f m = ShowsLegs (shown_legs f) f.place.leaf m
+ShowsIf false f m = ShowsNothing m
+
+-- a finding is shown in the tree of its own route, and in no other
+abbrev pub ShowsFinding : FindingValue → (number : ℕ) → MarksValue → Type 0
+ShowsFinding f number m = ShowsIf (number == f.place.spot.route) f m
 
 -- ---- which elements there are
 

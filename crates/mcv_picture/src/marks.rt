@@ -3,7 +3,7 @@
 ghost use Rattle.std.specs.Prelude.{◌≡◌, ◌==◌, ◌++◌, IfOk, OnOk, map};
 ghost use Rattle.mcv_draw.specs.Marks.{marks_of};
 ghost use Rattle.mcv_picture.specs.Found.{Shows};
-ghost use Rattle.mcv_picture.specs.Drawing.{ShowsFinding, ShowsNothing, shown_legs};
+ghost use Rattle.mcv_picture.specs.Drawing.{ShowsFinding, ShowsLegs, ShowsNothing, shown_legs};
 ghost use Rattle.mcv_witness.specs.Finding.{finding_of, outcomes_of};
 
 use mcv_base::Position;
@@ -55,12 +55,13 @@ fn certified(alloc: Global, pairs: &[Pair]) -> Result<Marks, AllocError>
     let mut readable = Vec::with_capacity(alloc, pairs.len())?;
     for pair in pairs {
         readable.push(pair.place.leaf.copy(alloc)?)?;
-        push_legs(alloc, &mut deletes, &pair.reason)?;
+        push_named(alloc, &mut deletes, &pair.reason)?;
     }
-    Ok(Marks::new(deletes, readable, Vec::new(alloc), None))
+    Ok(unshown(alloc, deletes, readable))
 }
 
-fn push_legs(alloc: Global, legs: &mut Vec<Position>, reason: &Reason) -> Result<(), AllocError> {
+/// Adds the legs that a reason names.
+fn push_named(alloc: Global, legs: &mut Vec<Position>, reason: &Reason) -> Result<(), AllocError> {
     match reason {
         Reason::Never => {}
         Reason::Twin(leg) => legs.push(leg.copy(alloc)?)?,
@@ -101,7 +102,7 @@ fn is_route_of(finding: &Finding, number: usize) -> bool
 /// What a finding marks in the tree of its route: the legs that answer, the leaf whose server is lost, and what deletes
 /// and gets of its keys reach.
 fn found_marks(alloc: Global, routes: &Routes, finding: &Finding) -> Result<Marks, AllocError>
-    ensures { IfOk result (λ marks. ShowsFinding (finding_of finding.now) (finding_of finding.now).place.spot.route (marks_of marks)) }
+    ensures { IfOk result (λ marks. ShowsLegs (shown_legs (finding_of finding.now)) finding.now.place.leaf (marks_of marks)) }
 {
     let shown = shown_legs(alloc, finding)?;
     let leaf = finding.place.leaf.copy(alloc)?;
@@ -116,6 +117,13 @@ fn unmarked(alloc: Global) -> Marks
 {
     let deletes = Vec::new(alloc);
     let readable = Vec::new(alloc);
+    unshown(alloc, deletes, readable)
+}
+
+/// These legs are marked, of which no finding shows any.
+fn unshown(alloc: Global, deletes: Vec<Position>, readable: Vec<Position>) -> Marks
+    ensures { ShowsNothing (marks_of result) }
+{
     let shown = Vec::new(alloc);
     Marks::new(deletes, readable, shown, None)
 }
@@ -183,14 +191,16 @@ fn push_reached(
     let Some(member) = table.member_of(place.class.as_slice()) else {
         return Ok(());
     };
-    let sets = Sets::new(alloc, route, &member, opened(routes, place.era))?;
-    push_sent(alloc, deletes, sets.acknowledged(alloc)?.as_slice())?;
-    let sets = Sets::new(alloc, route, &member, opened(routes, place.get_era))?;
-    push_sent(alloc, readable, sets.readable(alloc)?.as_slice())
+    let deleting = Sets::new(alloc, route, &member, opened(routes, place.era))?;
+    let sent = deleting.acknowledged(alloc)?;
+    push_legs_of(alloc, deletes, sent.as_slice())?;
+    let reading = Sets::new(alloc, route, &member, opened(routes, place.get_era))?;
+    let leaves = reading.readable(alloc)?;
+    push_legs_of(alloc, readable, leaves.as_slice())
 }
 
 /// Adds the positions of legs.
-fn push_sent(
+fn push_legs_of(
     alloc: Global,
     positions: &mut Vec<Position>,
     legs: &[Leg<'_>],
