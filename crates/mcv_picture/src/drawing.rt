@@ -106,7 +106,7 @@ fn picture_of(alloc: Global, routes: &Routes, found: &Found<'_>) -> Result<Pictu
     ensures { IfOk result (λ picture. AreDrawnOf (Shows found.now) routes.now (elements_of picture)) }
 {
     // There are fewer routes than a number can count.
-    let _ = routes.servers();
+    let _servers = routes.servers();
     let mut picture = Picture::new(alloc);
     let mut number = 0;
     while let Some(route) = routes.route(number) {
@@ -129,9 +129,10 @@ fn draw_route(
         × (elements_of picture.new ≡ elements_of picture.old ++ drawn (drawing routes.now number m) top (rows_of (elements_of picture.old)) (view route.now))) }
 {
     let marks = marks_of(alloc, routes, found, number)?;
+    let servers = routes.servers();
     let drawing = Drawing {
         number,
-        servers: routes.servers(),
+        servers,
         marks: &marks,
     };
     draw(alloc, picture, route, &drawing)

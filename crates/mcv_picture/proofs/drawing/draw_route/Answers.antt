@@ -12,5 +12,5 @@ returns c =
     let marks = marks_of c.in_ok-marks.marks in
     let with : List (List ℕ) → DrawingValue = λ servers. record { number = c.args.number; servers = servers; marks = marks } in
     on_ok_weaker c.draw.result
-    (λ drew. (marks, c.in_ok-marks.ensures, drew ∙ ap (λ (servers : List (List ℕ)). elements_of c.args.picture.now ++ drawn (with servers) top (rows_of (elements_of c.args.picture.now)) (view c.args.route.now)) c.servers-drawing.ensures.value))
+    (λ drew. (marks, c.in_ok-marks.ensures, drew ∙ ap (λ (servers : List (List ℕ)). elements_of c.args.picture.now ++ drawn (with servers) top (rows_of (elements_of c.args.picture.now)) (view c.args.route.now)) c.servers-servers.ensures.value))
     c.draw.ensures
