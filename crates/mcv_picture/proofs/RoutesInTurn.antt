@@ -1,5 +1,5 @@
 -- The routes' trees, drawn one below the other.
-use Rattle.std.proofs.Common.{◌≡◌, ◌∙◌, ◌≤◌, ◌+◌, ℕ, List, [], ◌∷◌, ◌++◌, Option, Some, None, add-one, ap, append_assoc, drop, drop-cons, length, option_map, refl, subst, sym}
+use Rattle.std.proofs.Common.{◌≡◌, ◌∙◌, ◌+◌, ℕ, suc, List, [], ◌∷◌, ◌++◌, Option, Some, None, add-one, ap, append_assoc, drop, drop-cons, length, option_map, refl, subst, sym}
 use Rattle.std.specs.Prelude.{slice_get}
 use Rattle.std.proofs.lemmas.List.{append-nil, drop_all}
 use Rattle.std.proofs.lemmas.Option.{get_or_from_slice_get, slice_get_within}
@@ -21,8 +21,7 @@ LeadTo P r number es = (below : List ElementValue) → AreDrawn P r number (rows
 
 rest_at : (es : List RouteEntry) (n : ℕ) (e : RouteEntry) → slice_get es n ≡ Some e → drop n es ≡ e ∷ drop (n + 1) es
 rest_at es n e at =
-    drop-cons es n e (slice_get_within es n e at)
-    ∙ ap (λ (x : RouteEntry). x ∷ drop (n + 1) es) (get_or_from_slice_get es n e e at)
+    rw add-one (drop-cons es n e (slice_get_within es n e at) ∙ ap (λ (x : RouteEntry). x ∷ drop (suc n) es) (get_or_from_slice_get es n e e at))
 
 pub none_drawn : (P : (number : ℕ) → MarksValue → Type 0) (r : RoutesValue) (es : List ElementValue) → es ≡ [] → LeadTo P r 0 es
 none_drawn P r es none = subst (λ (xs : List ElementValue). LeadTo P r 0 xs) (sym none) (λ below are. are)

@@ -32,7 +32,7 @@ pub(crate) fn marks_of(
 ) -> Result<Marks, AllocError>
     ensures { IfOk result (λ marks. Shows found.now number (marks_of marks)) }
 {
-    match found {
+    match *found {
         Found::Covered(certificate) => certified(alloc, pairs_of(certificate, number)),
         Found::Lost(finding) => lost(alloc, routes, finding, number),
     }

@@ -1,4 +1,5 @@
-use Rattle.std.proofs.Common.{◌==◌, rules, tests}
+use Rattle.std.proofs.Common.{◌==◌, rules}
+use borrow.Author.Tests.{tests}
 use Rattle.std.proofs.lemmas.Iterator.Consumers.{map_from_collect}
 use Rattle.std.proofs.lemmas.Iterator.Splits.{YieldsList-from_slice_split}
 use Rattle.mcv_picture.proofs.notes.parts_of.Goals as goal
