@@ -111,7 +111,7 @@ returns-in_default-subcommand_matches-5-clause-fault c =
       | inr (inr (inl legs)) ↦ true≢false (sym (c.in_default-subcommand_matches-5.ensures.found.1 (name_of_rows c.in-Ok.matches (codes "legs") legs.0 (held ∙ legs.1))))
       | inr (inr (inr (inl mend))) ↦ true≢false (sym (c.in_default-subcommand_matches.ensures.found.1 (name_of_rows c.in-Ok.matches (codes "mend") mend.0 (held ∙ mend.1))))
       | inr (inr (inr (inr (inl run)))) ↦ true≢false (sym (c.in_default-subcommand_matches-2.ensures.found.1 (name_of_rows c.in-Ok.matches (codes "run") run.0 (held ∙ run.1))))
-      | inr (inr (inr (inr (inr (spool))))) ↦ true≢false (sym (c.in_default-subcommand_matches-3.ensures.found.1 (name_of_rows c.in-Ok.matches (codes "spool") spool.0 (held ∙ spool.1))))
+      | inr (inr (inr (inr (inr spool)))) ↦ true≢false (sym (c.in_default-subcommand_matches-3.ensures.found.1 (name_of_rows c.in-Ok.matches (codes "spool") spool.0 (held ∙ spool.1))))
     ])
 
 pub returns-in_default-get_one-clause-fault : goal.returns-in_default-get_one-clause-fault
