@@ -1,12 +1,13 @@
 -- What is drawn of a configuration (own).
-use Rattle.std.specs.Prelude.{◌≡◌, ◌==◌, ◌+◌, ℕ, Bool, true, false, List, [], ◌∷◌, ◌++◌, if◌then◌else◌, bytes_eq, length, map}
+use Rattle.std.specs.Prelude.{◌≡◌, ◌==◌, ◌+◌, ℕ, Bool, true, false, List, [], ◌∷◌, ◌++◌, None, if◌then◌else◌, bytes_eq, length, map}
 use Rattle.std.specs.List.{All, flat_map, slice_split}
-use Rattle.mcv_cert.specs.Pair.{CertificateValue}
+use Rattle.mcv_cert.specs.Pair.{CertificateValue, PairValue}
+use Rattle.mcv_cert.specs.Reason.{ReasonValue, never, twin, same, all}
 use Rattle.mcv_certify.specs.PickedReasons.{IsPickedOf}
 use Rattle.mcv_draw.specs.Dot.{dot}
 use Rattle.mcv_draw.specs.Drawn.{DrawingValue, behind, drawn, top}
 use Rattle.mcv_draw.specs.Element.{ElementValue}
-use Rattle.mcv_draw.specs.Marks.{MarksValue, leads_to}
+use Rattle.mcv_draw.specs.Marks.{MarksValue, leads_to, marks_by}
 use Rattle.mcv_draw.specs.Svg.{svg}
 use Rattle.mcv_input.specs.Fault.{AreNamedBy}
 use Rattle.mcv_route.specs.Routes.{RouteEntry, RoutesValue, within}
@@ -19,6 +20,27 @@ use Rattle.mcv_witness.specs.Text.{finding_text}
 
 -- ---- what is marked
 
+-- the legs that a reason names
+abbrev pub reason_legs : ReasonValue → List (List ℕ)
+reason_legs never = []
+reason_legs (twin leg) = leg ∷ []
+reason_legs (same index leg) = leg ∷ []
+reason_legs (all index legs) = legs
+
+-- of a pair of the route of a number the legs, and the leaf; of another pair none
+abbrev pub own_legs : (number : ℕ) → PairValue → List (List ℕ)
+own_legs number p = if p.place.spot.route == number then reason_legs p.reason else []
+
+abbrev pub own_leaf : (number : ℕ) → PairValue → List (List ℕ)
+own_leaf number p = if p.place.spot.route == number then p.place.leaf ∷ [] else []
+
+-- what a certificate marks in the tree of a route: to the legs that reasons name deletes go, and its leaves can be read
+abbrev pub certificate_marks : CertificateValue → (number : ℕ) → MarksValue
+certificate_marks c number = marks_by (flat_map (own_legs number) c.pairs) (flat_map (own_leaf number) c.pairs) [] None
+
+abbrev pub no_marks : MarksValue
+no_marks = marks_by [] [] [] None
+
 -- the legs that answer a finding's delete and its get, and the leaf that is read
 abbrev pub shown_legs : FindingValue → List (List ℕ)
 shown_legs f = map (λ e. e.0) f.deletes ++ map (λ e. e.0) f.gets ++ f.place.leaf ∷ []
@@ -28,16 +50,11 @@ pub record ShowsLegs (legs : List (List ℕ)) (leaf : List ℕ) (m : MarksValue)
   pub shown : (p : List ℕ) → m.shown p ≡ leads_to legs p
   pub lost : (p : List ℕ) → m.lost p ≡ bytes_eq leaf p
 
--- nothing is shown, and no server is said to be lost
-pub record ShowsNothing (m : MarksValue) : Type 0 where
-  pub shown : (p : List ℕ) → m.shown p ≡ false
-  pub lost : (p : List ℕ) → m.lost p ≡ false
-
 abbrev pub ShowsIf : (is_own : Bool) → FindingValue → MarksValue → Type 0
 ShowsIf true f m = ShowsLegs (shown_legs f) f.place.leaf m
-ShowsIf false f m = ShowsNothing m
+ShowsIf false f m = m ≡ no_marks
 
--- a finding is shown in the tree of its own route, and in no other
+-- a finding is shown in the tree of its own route; in others nothing is marked
 abbrev pub ShowsFinding : FindingValue → (number : ℕ) → MarksValue → Type 0
 ShowsFinding f number m = ShowsIf (number == f.place.spot.route) f m
 
@@ -79,10 +96,10 @@ IsPictureOf false es said text = text ≡ svg es (note_lines said)
 abbrev pub IsDrawnWith : (P : (number : ℕ) → MarksValue → Type 0) → (is_dot : Bool) → RoutesValue → (said text : List ℕ) → Type 0
 IsDrawnWith P is_dot r said text = (es : List ElementValue) × AreDrawnOf P r es × IsPictureOf is_dot es said text
 
--- routes that are covered, and how many pairs the certificate has by which they are; or others, with what the first finding shows, and its text
+-- routes that are covered, with what a certificate marks by which they are, and how many pairs it has; or others, with what the first finding shows, and its text
 abbrev pub IsDrawnOf : (is_dot : Bool) → RoutesValue → Verdict → (text : List ℕ) → Type 0
 IsDrawnOf is_dot r (Covered n) text = (c : CertificateValue) × AreCoveredBy r c × All (IsPickedOf r) c.pairs × (n ≡ length c.pairs)
-    × IsDrawnWith (λ number m. ShowsNothing m) is_dot r (covered_line n) text
+    × IsDrawnWith (λ number m. m ≡ certificate_marks c number) is_dot r (covered_line n) text
 IsDrawnOf is_dot r Lost text = (f : FindingValue) × IsLossBy r f × IsDrawnWith (ShowsFinding f) is_dot r (finding_text r f) text
 
 -- the input is a configuration, and the text draws its routes within the window

@@ -5,8 +5,8 @@ ghost use Rattle.mcv_draw.specs.Drawn.{drawn, top};
 ghost use Rattle.mcv_draw.specs.Element.{rows_of};
 ghost use Rattle.mcv_draw.specs.Marks.{MarksValue};
 ghost use Rattle.mcv_draw.specs.Walk.{elements_of};
-ghost use Rattle.mcv_picture.specs.Drawing.{AreDrawnOf, IsDrawnOf, IsDrawnWith, ShowsFinding, ShowsNothing, drawing};
-ghost use Rattle.mcv_picture.specs.Found.{Shows};
+ghost use Rattle.mcv_picture.specs.Drawing.{AreDrawnOf, IsDrawnOf, IsDrawnWith, ShowsFinding, certificate_marks, drawing};
+ghost use Rattle.mcv_picture.specs.Found.{AreMarksOf};
 ghost use Rattle.mcv_route.specs.View.{view};
 ghost use Rattle.mcv_verdict.specs.Text.{covered_line};
 ghost use Rattle.mcv_witness.specs.Finding.{finding_of};
@@ -52,7 +52,7 @@ fn covered_drawing(
     is_dot: bool,
 ) -> Result<Drawn, AllocError>
     ensures verdict { IfOk result (λ drawn. drawn.verdict ≡ Verdict.Covered (length certificate.now.pairs)) }
-    ensures text { IfOk result (λ drawn. IsDrawnWith (λ number m. ShowsNothing m) is_dot accepted.now (covered_line (length certificate.now.pairs)) drawn.text.items) }
+    ensures text { IfOk result (λ drawn. IsDrawnWith (λ number m. m ≡ certificate_marks certificate.now number) is_dot accepted.now (covered_line (length certificate.now.pairs)) drawn.text.items) }
 {
     let pairs = certificate.len();
     let said = covered_line(alloc, pairs)?;
@@ -91,7 +91,7 @@ fn picture_text(
     said: &[u8],
     is_dot: bool,
 ) -> Result<Vec<u8>, AllocError>
-    ensures { IfOk result (λ text. IsDrawnWith (Shows found.now) is_dot routes.now said.now text.items) }
+    ensures { IfOk result (λ text. IsDrawnWith (AreMarksOf found.now) is_dot routes.now said.now text.items) }
 {
     let picture = picture_of(alloc, routes, found)?;
     if is_dot {
@@ -103,7 +103,7 @@ fn picture_text(
 
 /// The routes' trees, one below the other, with what was found marked in each.
 fn picture_of(alloc: Global, routes: &Routes, found: &Found<'_>) -> Result<Picture, AllocError>
-    ensures { IfOk result (λ picture. AreDrawnOf (Shows found.now) routes.now (elements_of picture)) }
+    ensures { IfOk result (λ picture. AreDrawnOf (AreMarksOf found.now) routes.now (elements_of picture)) }
 {
     // There are fewer routes than a number can count.
     let _servers = routes.servers();
@@ -125,7 +125,7 @@ fn draw_route(
     number: usize,
     route: &Route,
 ) -> Result<(), AllocError>
-    ensures { OnOk result ((m : MarksValue) × Shows found.now number m
+    ensures { OnOk result ((m : MarksValue) × AreMarksOf found.now number m
         × (elements_of picture.new ≡ elements_of picture.old ++ drawn (drawing routes.now number m) top (rows_of (elements_of picture.old)) (view route.now))) }
 {
     let marks = marks_of(alloc, routes, found, number)?;
