@@ -10,9 +10,9 @@ which that can't happen, and `mcv spool` shows the deletes that it keeps in a
 file.";
 
 pub(crate) const EXAMPLE: &str =
-    "Examples: can a configuration lose a delete? Write it with the deletes that it
-lacks. Which servers does a delete of the key `a` reach? Serve clients at port
-5000.
+    "Examples: can a configuration lose a delete? Draw it, and write it with the
+deletes that it lacks. Which servers does a delete of the key `a` reach? Serve
+clients at port 5000.
 
   mcv check < mcrouter.json
   mcv draw < mcrouter.json > tree.svg
