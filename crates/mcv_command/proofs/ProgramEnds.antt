@@ -24,9 +24,9 @@ use Rattle.mcv_verdict.specs.declared.verdict.Verdict.TheVariants.{Covered, Lost
 use Rattle.mcv_command.specs.declared.stop.Ending.{Ending}
 use Rattle.mcv_command.specs.declared.stop.Stop.{Stop}
 use Rattle.mcv_command.specs.declared.stop.Stop.TheVariants.{BadLine, Mended, NoChange, Run, Damaged}
-use Rattle.mcv_command.specs.Program.{GivesJson, Held, IfGiven, IsJudgingFault, IsListingStop, IsMendingStop, IsReportedStop, IsStop}
+use Rattle.mcv_command.specs.Program.{GivesJson, Held, IfGiven, IsDrawingStop, IsJudgingFault, IsListingStop, IsMendingStop, IsReportedStop, IsStop}
 use Rattle.mcv_command.specs.Stop.{of_records, stop_of_mending}
-use Rattle.mcv_words.specs.Words.{AsksCheck, AsksMend, AsksRun, AsksSpool, RunOrder, SpoolOrder, named}
+use Rattle.mcv_words.specs.Words.{AsksCheck, AsksDraw, AsksMend, AsksRun, AsksSpool, RunOrder, SpoolOrder, named}
 use Rattle.mcv_words.specs.declared.options.CheckOptions.{CheckOptions}
 
 -- ---- the faults of a verdict, as the program's
@@ -43,7 +43,7 @@ pub running_stop : (words : List Text) (held : Held) (input : Option Text) (orde
     → IsJudgingFault held None order.settings.window.seconds input stop → IsStop words held input stop
 running_stop words held input order BadLine asks holds = absurd holds
 running_stop words held input order (Damaged slot) asks holds = absurd holds
-running_stop words held input order (Run fault) asks holds = inr (inr (inr (inr (order, asks, holds))))
+running_stop words held input order (Run fault) asks holds = inr (inr (inr (inr (inl (order, asks, holds)))))
 running_stop words held input order (Mended fault) asks holds = absurd holds
 running_stop words held input order NoChange asks holds = absurd holds
 
@@ -101,6 +101,15 @@ mending_stop words held input patch (Run fault) asks holds = inr (inr (inr (inl 
 mending_stop words held input patch (Mended fault) asks holds = (patch, asks, holds)
 mending_stop words held input patch NoChange asks holds = (patch, asks, holds)
 
+-- ---- what isn't drawn
+
+pub drawing_stop : (words : List Text) (held : Held) (input : Option Text) (is_dot : Bool) (stop : Stop) → AsksDraw words is_dot → IsDrawingStop input stop → IsStop words held input stop
+drawing_stop words held input is_dot BadLine asks holds = absurd holds
+drawing_stop words held input is_dot (Damaged slot) asks holds = absurd holds
+drawing_stop words held input is_dot (Run fault) asks holds = inr (inr (inr (inr (inr (is_dot, asks, holds)))))
+drawing_stop words held input is_dot (Mended fault) asks holds = absurd holds
+drawing_stop words held input is_dot NoChange asks holds = absurd holds
+
 -- ---- a run's faults
 
 -- a fault that is outside is out of memory or a device's
@@ -149,6 +158,10 @@ judged_whole result held cert window input slot holds damaged = subst (λ (r : R
 -- .. nor is one of a configuration that isn't mended
 pub mended_whole : (result : Result Ending Stop) (input : Option Text) (slot : ℕ) → IfErr result (IsMendingStop input) → result ≡ Err (Damaged slot) → ⊥
 mended_whole result input slot holds damaged = subst (λ (r : Result Ending Stop). IfErr r (IsMendingStop input)) damaged holds
+
+-- .. nor is one of a configuration that isn't drawn
+pub drawn_whole : (result : Result Ending Stop) (input : Option Text) (slot : ℕ) → IfErr result (IsDrawingStop input) → result ≡ Err (Damaged slot) → ⊥
+drawn_whole result input slot holds damaged = subst (λ (r : Result Ending Stop). IfErr r (IsDrawingStop input)) damaged holds
 
 -- a damaged slot is one of the records'
 pub damaged_records : (result : Result Ending Stop) (fault : RecordsFault) (stop : Stop) (slot : ℕ) → result ≡ Err stop → stop ≡ of_records fault → result ≡ Err (Damaged slot)

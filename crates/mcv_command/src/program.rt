@@ -1,7 +1,7 @@
 //! The program, over any reader and writer in place of standard input and output, any files and any proxy.
 
 ghost use Rattle.std.specs.Prelude.{◌≡◌, ◌≢◌, ℕ, None, Some, Err, false, true, IfErr, IfOk, map};
-ghost use Rattle.mcv_command.specs.Program.{AsksAnyRun, AsksAnySpool, AsksReport, GivesJson, Held, IsDone, IsJudgedAs, IsJudgingFault, IsListed, IsListedTo, IsListingStop, IsMended, IsMendedAs, IsMendingStop, IsPatched, IsReportedStop, IsServed, IsStop, ending_of, shown_of};
+ghost use Rattle.mcv_command.specs.Program.{AsksAnyRun, AsksAnySpool, AsksReport, GivesJson, Held, IsDone, IsDrawingStop, IsDrawn, IsJudgedAs, IsJudgingFault, IsListed, IsListedTo, IsListingStop, IsMended, IsMendedAs, IsMendingStop, IsPatched, IsReportedStop, IsServed, IsStop, ending_of, shown_of};
 ghost use Rattle.mcv_command.specs.declared.stop.Stop.TheVariants.{Run, Damaged};
 ghost use Rattle.mcv_input.specs.declared.fault.RunFault.TheVariants.{Device, Memory};
 ghost use Rattle.mcv_words.specs.Words.{AsksSpool, SpoolOrder, order_of, spool_order_of};
@@ -13,6 +13,7 @@ use mcv_input::{RunFault, write_text};
 use mcv_legs::run_legs;
 use mcv_mend::run_mend;
 use mcv_mend_patch::run_patch;
+use mcv_picture::run_draw;
 use mcv_records::{Shown, write_records};
 use mcv_show::run_check_as;
 use mcv_verdict::{Judgement, Verdict, judge_input};
@@ -67,6 +68,21 @@ fn judge_by<R: Read, W: Write, F: NamedFiles>(
     let text = files.read_named(alloc, name, CERTIFICATE_LIMIT)?;
     let verdict = run_check_as(alloc, reader, writer, Some(text.as_slice()), options)?;
     Ok(ending_of(verdict))
+}
+
+/// Writes the picture of a configuration, as SVG or for Graphviz.
+fn draw<R: Read, W: Write>(
+    alloc: Global,
+    is_dot: bool,
+    reader: &mut R,
+    writer: &mut W,
+) -> Result<Ending, Stop>
+    ensures done { IfOk result (IsDrawn is_dot (R.remaining reader.old) (W.contents writer.old) (W.contents writer.new)) }
+    ensures stop { IfErr result (IsDrawingStop (R.remaining reader.old)) }
+    ensures silent { IfErr result (λ stop. stop ≢ Run Device → W.contents writer.new ≡ W.contents writer.old) }
+{
+    let _verdict = run_draw(alloc, reader, writer, 0, is_dot)?;
+    Ok(Ending::Done)
 }
 
 /// Writes a configuration mended, or the patch that mends it.
@@ -170,7 +186,7 @@ fn list_records<W: Write, F: NamedFiles>(
 }
 
 /// Does what the words of a command line ask for, of which the first is the program's name: help,
-/// legs, verdicts, a mended configuration and records are written to the writer, and so is what the proxy says of itself.
+/// legs, verdicts, a picture, a mended configuration and records are written to the writer, and so is what the proxy says of itself.
 pub fn run_words<'a, R: Read, W: Write, F: NamedFiles, P: Proxy>(
     alloc: Global,
     words: &'a [&'a str],
@@ -206,6 +222,7 @@ pub fn run_words<'a, R: Read, W: Write, F: NamedFiles, P: Proxy>(
                 options,
             },
         ) => judge_by(alloc, name, options, files, reader, writer),
+        Ok(Job::Draw { dot }) => draw(alloc, dot, reader, writer),
         Ok(Job::Mend { patch }) => mend(alloc, patch, reader, writer),
         Ok(Job::Run(options)) => serve(alloc, proxy, options, reader, writer),
         Ok(Job::Spool(options)) => list_records(alloc, options, files, writer),

@@ -1,12 +1,12 @@
 -- Each position is drawn, and none twice: what is below one child begins otherwise than what is below another.
-use Rattle.std.proofs.Common.{◌≡◌, ◌≢◌, ◌≤◌, ◌<◌, ◌∙◌, ℕ, suc, List, [], ◌∷◌, ◌++◌, length, map, append_assoc, length-append, arith, ap, refl, sym}
+use Rattle.std.proofs.Common.{◌≡◌, ◌≢◌, ◌≤◌, ◌∙◌, ℕ, suc, List, [], ◌∷◌, ◌++◌, length, map, append_assoc, length-append, arith, ap, refl, sym}
 use Rattle.std.specs.Prelude.{⊤}
 use Rattle.std.specs.List.{All, AllPairs}
 use Rattle.std.proofs.lemmas.List.{append_cancel_left, append-nil, map-append}
 use Rattle.std.proofs.lemmas.List.Elements.{All-nil, All-cons}
 use Rattle.std.proofs.lemmas.List.Kept.{AllPairs-cons}
 use Rattle.mcv_route.specs.Tree.{Tree, Trees, pool, null, error, many, warm_up, migrate, prefix_selector, operation_selector, none, child}
-use Rattle.mcv_draw.specs.Drawn.{BranchValue, DrawingValue, behind, branch_to, drawn, drawn_each, element, next_row, top}
+use Rattle.mcv_draw.specs.Drawn.{BranchValue, DrawingValue, behind, branch_to, drawn, drawn_each, next_row, top}
 use Rattle.mcv_draw.specs.Element.{ElementValue}
 use Rattle.mcv_draw.specs.Positions.{EachIsDrawnOnce, positions, positions_each}
 

@@ -1,13 +1,12 @@
 -- What is drawn, as a walk makes it: the next handle, then its children before all else.
-use Rattle.std.proofs.Common.{◌≡◌, ◌∙◌, ◌<◌, ◌≤◌, ◌+◌, ℕ, zero, suc, Bool, true, false, cond, List, [], ◌∷◌, ◌++◌, Option, Some, None, add-zero, add_assoc, ap, append_assoc, arith, is_some, length, length-append, map, refl, subst, sym}
+use Rattle.std.proofs.Common.{◌≡◌, ◌∙◌, ◌<◌, ◌+◌, ℕ, zero, suc, cond, List, [], ◌∷◌, ◌++◌, Some, None, add-zero, add_assoc, ap, append_assoc, arith, is_some, length, map, refl, sym}
 use Rattle.std.proofs.lemmas.List.{append-nil, map-append}
-use Rattle.std.proofs.lemmas.List.Sums.{count_by-le-length, sum_by-append}
+use Rattle.std.proofs.lemmas.List.Sums.{sum_by-append}
 use Rattle.mcv_route.specs.Places.{child_at, children_of}
 use Rattle.mcv_route.specs.Tree.{Tree, Trees, pool, null, error, many, warm_up, migrate, prefix_selector, operation_selector, none, child}
 use Rattle.mcv_draw.specs.Children.{drawn_children, from_child, tree_count}
-use Rattle.mcv_draw.specs.Drawn.{BranchValue, DrawingValue, behind, branch_to, drawn, drawn_each, element, next_row, top}
+use Rattle.mcv_draw.specs.Drawn.{BranchValue, DrawingValue, behind, branch_to, drawn, drawn_each, element, next_row}
 use Rattle.mcv_draw.specs.Element.{ElementValue, rows_of}
-use Rattle.mcv_draw.specs.Marks.{MarksValue}
 use Rattle.mcv_draw.specs.Walk.{HandleValue, children_back, handles_back}
 
 -- a handle, and how it hangs

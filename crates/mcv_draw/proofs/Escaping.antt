@@ -1,10 +1,10 @@
 -- Texts that are escaped open and close nothing.
-use Rattle.std.proofs.Common.{◌≡◌, ◌∙◌, ℕ, Bool, true, false, cond, not, ◌&&◌, ◌==◌, List, [], ◌∷◌, ◌++◌, codes, refl, sym, ap}
+use Rattle.std.proofs.Common.{◌≡◌, ◌∙◌, ℕ, Bool, true, false, cond, not, ◌&&◌, ◌==◌, List, [], ◌∷◌, ◌++◌, codes, refl, ap}
 use Rattle.std.specs.Prelude.{nat_le}
 use Rattle.std.specs.List.{list_all}
 use Rattle.std.proofs.lemmas.Bool.{and_from}
 use Rattle.std.proofs.lemmas.List.Folds.{list_all-append}
-use Rattle.mcv_draw.specs.Markup.{TextsAreEscaped, TextsAreQuoted, dot_byte, dot_text, is_no_markup, shown_byte, stays_open, xml_byte, xml_text}
+use Rattle.mcv_draw.specs.Markup.{TextsAreEscaped, TextsAreQuoted, dot_text, is_no_markup, shown_byte, stays_open, xml_byte, xml_text}
 
 -- ---- XML
 

@@ -1,5 +1,5 @@
 -- What stands in a box and on an edge, handle by handle.
-use Rattle.std.proofs.Common.{◌≡◌, ◌∙◌, ◌==◌, ◌++◌, ℕ, List, [], Option, Some, None, Bor, ◌∷◌, ap, arith, codes, cond, length, map, min, refl, sym, take}
+use Rattle.std.proofs.Common.{◌≡◌, ◌∙◌, ◌==◌, ℕ, List, [], Option, Some, None, Bor, ◌∷◌, ap, arith, codes, length, map, min, refl, sym, take}
 use Rattle.std.specs.Prelude.{Box, Vec, decimal, if◌then◌else◌, option_map, slice_get}
 use Rattle.std.specs.Slice.{IsItemAt}
 use Rattle.std.proofs.lemmas.Option.{slice_get-map}

@@ -1,5 +1,5 @@
 -- What is drawn of a route: an element for each handle, one below the other (own).
-use Rattle.std.specs.Prelude.{◌≡◌, ℕ, suc, ◌+◌, ◌&&◌, ◌||◌, not, Bool, false, List, [], ◌∷◌, ◌++◌, Some, None, if◌then◌else◌, nat_le}
+use Rattle.std.specs.Prelude.{ℕ, suc, ◌+◌, ◌&&◌, ◌||◌, not, Bool, false, List, [], ◌∷◌, ◌++◌, Some, None, if◌then◌else◌, nat_le}
 use Rattle.mcv_route.specs.Tree.{Tree, Trees, pool, null, error, many, warm_up, migrate, prefix_selector, operation_selector, none, child}
 use Rattle.mcv_draw.specs.Element.{ElementValue, rows_of}
 use Rattle.mcv_draw.specs.Label.{child_word, label}

@@ -1,5 +1,5 @@
 -- What a verdict marks in the tree of a route (own).
-use Rattle.std.specs.Prelude.{◌≡◌, ℕ, Bool, false, List, Option, Some, None, bytes_eq, nat_eq}
+use Rattle.std.specs.Prelude.{ℕ, Bool, false, List, Option, Some, None, bytes_eq, nat_eq}
 use Rattle.std.specs.List.{list_any, starts_with}
 use Rattle.mcv_draw.specs.declared.marks.Marked.{Marked}
 use Rattle.mcv_draw.specs.declared.marks.Marks.{Marks}

@@ -1,6 +1,6 @@
 //! What stands on the edge to a child.
 
-ghost use Rattle.std.specs.Prelude.{◌≡◌, ◌==◌, ◌++◌, IfOk, codes, decimal, if◌then◌else◌, option_map};
+ghost use Rattle.std.specs.Prelude.{◌≡◌, ◌==◌, IfOk, codes, if◌then◌else◌, option_map};
 ghost use Rattle.mcv_draw.specs.Label.{child_word, op_word, operation_word, prefix_word, shadow_word};
 ghost use Rattle.mcv_route.specs.View.{operation_view, prefix_view, shadow_view, view};
 

@@ -1,6 +1,6 @@
 //! The picture as Graphviz reads it.
 
-ghost use Rattle.std.specs.Prelude.{◌≡◌, ◌++◌, IfOk, OnOk, map};
+ghost use Rattle.std.specs.Prelude.{◌≡◌, ◌++◌, IfOk, OnOk};
 ghost use Rattle.mcv_draw.specs.Dot.{dot, dot_colour, dot_edge, dot_head, dot_line, dot_node, dot_style, edge_words, folded_words, node_words, parent_of};
 ghost use Rattle.mcv_draw.specs.Element.{element_of};
 ghost use Rattle.mcv_draw.specs.Svg.{identifier};

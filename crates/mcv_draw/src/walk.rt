@@ -1,12 +1,10 @@
 //! The walk through a route's tree, handle by handle.
 
-ghost use Rattle.std.specs.Prelude.{◌≡◌, ◌<◌, ◌++◌, ◌∷◌, [], ◌&&◌, ◌||◌, IfOk, OnOk, if◌then◌else◌, map, nat_le, not};
-ghost use Rattle.mcv_draw.specs.Children.{drawn_children, tree_count};
+ghost use Rattle.std.specs.Prelude.{◌≡◌, ◌++◌, ◌∷◌, [], ◌&&◌, ◌||◌, IfOk, OnOk, if◌then◌else◌, map, nat_le, not};
 ghost use Rattle.mcv_draw.specs.Drawn.{branch_to, drawn, element, is_folded_at, top};
 ghost use Rattle.mcv_draw.specs.Element.{element_of, rows_of};
 ghost use Rattle.mcv_draw.specs.Marks.{marks_of};
 ghost use Rattle.mcv_draw.specs.Walk.{branch_of, children_back, drawing_of, elements_of, handle_of};
-ghost use Rattle.mcv_route.specs.Places.{child_at, children_of};
 ghost use Rattle.mcv_route.specs.View.{view};
 
 use crate::children::child_count;

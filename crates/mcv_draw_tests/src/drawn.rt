@@ -132,6 +132,7 @@ fn check_wide(
     alloc: Global,
     children: usize,
     shown: usize,
+    elements: usize,
     boxes: usize,
 ) -> Result<(), Fail> {
     let routes = routes(rt, alloc, wide(alloc, children)?.as_str())?;
@@ -143,14 +144,14 @@ fn check_wide(
     );
     let picture = picture_of(rt, alloc, &routes, &marks)?;
     let text = svg(alloc, &picture, &[])?;
-    assert!(rt; lines_with(text.as_slice(), b"<g id=\"r0p") == children + 1);
-    assert!(rt; lines_with(text.as_slice(), b"<rect x=") == boxes + 1);
+    assert!(rt; lines_with(text.as_slice(), b"<g id=\"r0p") == elements);
+    assert!(rt; lines_with(text.as_slice(), b"<rect x=") == boxes);
     Ok(())
 }
 
 #[test]
 fn wide_trees_are_folded(rt: HostRuntime) -> Result<(), Fail> {
-    check_wide(&rt, rt.alloc(), 60, 0, 60)?;
-    check_wide(&rt, rt.alloc(), 61, 0, 60)?;
-    check_wide(&rt, rt.alloc(), 100, 99, 61)
+    check_wide(&rt, rt.alloc(), 60, 0, 61, 61)?;
+    check_wide(&rt, rt.alloc(), 61, 0, 62, 61)?;
+    check_wide(&rt, rt.alloc(), 100, 99, 101, 62)
 }

@@ -1,11 +1,13 @@
 //! The verdict on routes, and their picture.
 
-ghost use Rattle.std.specs.Prelude.{◌≡◌, ◌≤◌, ◌+◌, ℕ, IfErr, IfOk, OnOk, length};
-ghost use Rattle.mcv_draw.specs.Dot.{dot};
+ghost use Rattle.std.specs.Prelude.{◌≡◌, ◌++◌, IfErr, IfOk, OnOk, length};
+ghost use Rattle.mcv_draw.specs.Drawn.{drawn, top};
+ghost use Rattle.mcv_draw.specs.Element.{rows_of};
 ghost use Rattle.mcv_draw.specs.Marks.{MarksValue};
-ghost use Rattle.mcv_draw.specs.Svg.{svg};
 ghost use Rattle.mcv_draw.specs.Walk.{elements_of};
-ghost use Rattle.mcv_picture.specs.Drawing.{AreMarksFor, IsDrawnOf, IsPictureOf, drawn_all, note_lines};
+ghost use Rattle.mcv_picture.specs.Drawing.{AreDrawnOf, IsDrawnOf, IsDrawnWith, ShowsFinding, certificate_marks, drawing};
+ghost use Rattle.mcv_picture.specs.Found.{AreMarksOf};
+ghost use Rattle.mcv_route.specs.View.{view};
 ghost use Rattle.mcv_verdict.specs.Text.{covered_line};
 ghost use Rattle.mcv_witness.specs.Finding.{finding_of};
 ghost use Rattle.mcv_witness.specs.Text.{finding_text};
@@ -16,7 +18,7 @@ use mcv_cert::Certificate;
 use mcv_check::Accepted;
 use mcv_draw::{Drawing, Picture, dot, draw, svg};
 use mcv_input::RunFault;
-use mcv_route::Routes;
+use mcv_route::{Route, Routes};
 use mcv_verdict::{Judged, Verdict, covered_line, judge};
 use mcv_witness::{Finding, finding_text};
 use std::alloc::{AllocError, Global};
@@ -50,8 +52,7 @@ fn covered_drawing(
     is_dot: bool,
 ) -> Result<Drawn, AllocError>
     ensures verdict { IfOk result (λ drawn. drawn.verdict ≡ Verdict.Covered (length certificate.now.pairs)) }
-    ensures text { IfOk result (λ drawn. (marks : ℕ → MarksValue)
-        × IsPictureOf is_dot (drawn_all accepted.now marks) (covered_line (length certificate.now.pairs)) drawn.text.items) }
+    ensures text { IfOk result (λ drawn. IsDrawnWith (λ number m. m ≡ certificate_marks certificate.now number) is_dot accepted.now (covered_line (length certificate.now.pairs)) drawn.text.items) }
 {
     let pairs = certificate.len();
     let said = covered_line(alloc, pairs)?;
@@ -71,8 +72,7 @@ fn lost_drawing(
     is_dot: bool,
 ) -> Result<Drawn, AllocError>
     ensures verdict { IfOk result (λ drawn. drawn.verdict ≡ Verdict.Lost) }
-    ensures text { IfOk result (λ drawn. (marks : ℕ → MarksValue) × ((number : ℕ) → AreMarksFor (finding_of finding.now) number (marks number))
-        × IsPictureOf is_dot (drawn_all routes.now marks) (finding_text routes.now (finding_of finding.now)) drawn.text.items) }
+    ensures text { IfOk result (λ drawn. IsDrawnWith (ShowsFinding (finding_of finding.now)) is_dot routes.now (finding_text routes.now (finding_of finding.now)) drawn.text.items) }
 {
     let said = finding_text(alloc, finding, routes)?;
     let found = Found::Lost(finding);
@@ -90,7 +90,9 @@ fn picture_text(
     found: &Found<'_>,
     said: &[u8],
     is_dot: bool,
-) -> Result<Vec<u8>, AllocError> {
+) -> Result<Vec<u8>, AllocError>
+    ensures { IfOk result (λ text. IsDrawnWith (AreMarksOf found.now) is_dot routes.now said.now text.items) }
+{
     let picture = picture_of(alloc, routes, found)?;
     if is_dot {
         return dot(alloc, &picture);
@@ -100,18 +102,38 @@ fn picture_text(
 }
 
 /// The routes' trees, one below the other, with what was found marked in each.
-fn picture_of(alloc: Global, routes: &Routes, found: &Found<'_>) -> Result<Picture, AllocError> {
+fn picture_of(alloc: Global, routes: &Routes, found: &Found<'_>) -> Result<Picture, AllocError>
+    ensures { IfOk result (λ picture. AreDrawnOf (AreMarksOf found.now) routes.now (elements_of picture)) }
+{
+    // There are fewer routes than a number can count.
+    let _servers = routes.servers();
     let mut picture = Picture::new(alloc);
     let mut number = 0;
     while let Some(route) = routes.route(number) {
-        let marks = marks_of(alloc, routes, found, number)?;
-        let drawing = Drawing {
-            number,
-            servers: routes.servers(),
-            marks: &marks,
-        };
-        draw(alloc, &mut picture, route, &drawing)?;
+        draw_route(alloc, &mut picture, routes, found, number, route)?;
         number += 1;
     }
     Ok(picture)
+}
+
+/// Adds the tree of the route of a number, with what was found marked in it.
+fn draw_route(
+    alloc: Global,
+    picture: &mut Picture,
+    routes: &Routes,
+    found: &Found<'_>,
+    number: usize,
+    route: &Route,
+) -> Result<(), AllocError>
+    ensures { OnOk result ((m : MarksValue) × AreMarksOf found.now number m
+        × (elements_of picture.new ≡ elements_of picture.old ++ drawn (drawing routes.now number m) top (rows_of (elements_of picture.old)) (view route.now))) }
+{
+    let marks = marks_of(alloc, routes, found, number)?;
+    let servers = routes.servers();
+    let drawing = Drawing {
+        number,
+        servers,
+        marks: &marks,
+    };
+    draw(alloc, picture, route, &drawing)
 }

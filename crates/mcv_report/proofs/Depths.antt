@@ -10,11 +10,14 @@ use Rattle.mcv_base.specs.declared.operation.Op.TheVariants.{Delete}
 use Rattle.mcv_base.specs.declared.reply.Outcome.{Outcome}
 use Rattle.mcv_cert.specs.Pair.{CertificateValue, PairValue}
 use Rattle.mcv_explain.specs.Scene.{SceneValue}
+use Rattle.mcv_faults.specs.FaultName.{fault_name}
+use Rattle.mcv_faults.specs.FaultPointer.{fault_pointer}
+use Rattle.mcv_names.specs.Fault.{fault_number, fault_path}
 use Rattle.mcv_names.specs.declared.fault.ConfigFault.{ConfigFault}
 use Rattle.mcv_pools.specs.Symbol.{SymbolValue}
 use Rattle.mcv_route.specs.Outcomes.{History}
 use Rattle.mcv_report.specs.CertificateReport.{covered_report, pair_report, reason_index, reason_legs}
-use Rattle.mcv_report.specs.FaultReport.{certificate_fault_report, column_of, config_fault_report, line_of, refused_report}
+use Rattle.mcv_report.specs.FaultReport.{certificate_fault_report, column_of, config_fault_report, line_of, placed_fault_report, refused_report}
 use Rattle.mcv_report.specs.FindingReport.{era_report, finding_report, index_list, index_report, leg_report, lost_report, opened_at, request_report, route_report, server_report}
 use Rattle.mcv_report.specs.Json.{number_or_null, text_from}
 
@@ -143,11 +146,10 @@ covered_within d c =
 
 -- ---- of a fault
 
-config_fault_within : (f : ConfigFault) (place : Option (ℕ × ℕ)) → depth (config_fault_report f place) ≤ 1
-unfolding config_fault_report
-config_fault_within f place =
-    object_within 0 (members_of (config_fault_report f place))
-    (number_within (column_of place) 0, (flat 0, (number_within (line_of place) 0, (flat 0, (flat 0, (flat 0, tt))))))
+placed_fault_within : (column line : Option ℕ) (name : List ℕ) (n : ℕ) (pointer : List ℕ) → depth (placed_fault_report column line name n pointer) ≤ 1
+unfolding placed_fault_report
+placed_fault_within column line name n pointer =
+    object_within 0 (members_of (placed_fault_report column line name n pointer)) (number_within column 0, (flat 0, (number_within line 0, (flat 0, (flat 0, (flat 0, tt))))))
 
 certificate_fault_within : (kind : List ℕ) (line : Option ℕ) (name : List ℕ) (n : ℕ) → depth (certificate_fault_report kind line name n) ≤ 1
 unfolding certificate_fault_report
@@ -161,7 +163,8 @@ within_refused fault within =
     omega arith
 
 pub refused_within : (f : ConfigFault) (place : Option (ℕ × ℕ)) → depth (refused_report (config_fault_report f place)) ≤ max_depth
-refused_within f place = within_refused (config_fault_report f place) (config_fault_within f place)
+refused_within f place =
+    within_refused (config_fault_report f place) (placed_fault_within (column_of place) (line_of place) (fault_name f.kind) (fault_number f) (fault_pointer (fault_path f)))
 
 pub certificate_refused_within : (kind : List ℕ) (line : Option ℕ) (name : List ℕ) (n : ℕ) → depth (refused_report (certificate_fault_report kind line name n)) ≤ max_depth
 certificate_refused_within kind line name n = within_refused (certificate_fault_report kind line name n) (certificate_fault_within kind line name n)

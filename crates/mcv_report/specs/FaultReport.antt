@@ -19,15 +19,20 @@ line_of place = option_map (λ p. p.0) place
 abbrev pub column_of : Option (ℕ × ℕ) → Option ℕ
 column_of place = option_map (λ p. p.1) place
 
--- a fault of the configuration, with its line and its column where they are known
-unfoldable pub config_fault_report : ConfigFault → Option (ℕ × ℕ) → Data
-config_fault_report f place = object_from (
-    (codes "column", number_or_null (column_of place))
+-- a fault of the configuration: its column and its line where they are known, its name, its number, and the pointer to what is wrong
+unfoldable pub placed_fault_report : (column line : Option ℕ) → (name : List ℕ) → (number : ℕ) → (pointer : List ℕ) → Data
+placed_fault_report column line name number pointer = object_from (
+    (codes "column", number_or_null column)
     ∷ (codes "kind", text_from (codes "configuration"))
-    ∷ (codes "line", number_or_null (line_of place))
-    ∷ (codes "name", text_from (fault_name f.kind))
-    ∷ (codes "number", number_from (fault_number f))
-    ∷ (codes "pointer", text_from (fault_pointer (fault_path f))) ∷ [])
+    ∷ (codes "line", number_or_null line)
+    ∷ (codes "name", text_from name)
+    ∷ (codes "number", number_from number)
+    ∷ (codes "pointer", text_from pointer) ∷ [])
+
+-- with a line and a column for a place
+abbrev pub config_fault_report : ConfigFault → Option (ℕ × ℕ) → Data
+config_fault_report f place =
+    placed_fault_report (column_of place) (line_of place) (fault_name f.kind) (fault_number f) (fault_pointer (fault_path f))
 
 -- ---- faults of a certificate
 

@@ -5,7 +5,7 @@ ghost use Rattle.serde_json.specs.View.{view};
 ghost use Rattle.mcv_faults.specs.FaultPointer.{fault_pointer};
 ghost use Rattle.mcv_names.specs.Fault.{fault_path};
 ghost use Rattle.mcv_report.specs.Json.{IsJsonOf};
-ghost use Rattle.mcv_report.specs.FaultReport.{certificate_fault_report, column_of, config_fault_report, line_of, pair_fault_name, pair_fault_report, refused_report, text_fault_name, text_fault_report, window_fault_report};
+ghost use Rattle.mcv_report.specs.FaultReport.{certificate_fault_report, column_of, config_fault_report, line_of, pair_fault_name, pair_fault_report, placed_fault_report, refused_report, text_fault_name, text_fault_report, window_fault_report};
 
 use crate::object::Object;
 use crate::text::report_text;
@@ -146,7 +146,6 @@ fn pointer_of(alloc: Global, fault: &ConfigFault) -> Result<Vec<u8>, AllocError>
     fault_pointer(alloc, fault.path().as_bytes())
 }
 
-#[tactic(auto, unfolding(crate::specs::FaultReport::config_fault_report))]
 fn config_fault_report(
     alloc: Global,
     fault: &ConfigFault,
@@ -155,12 +154,36 @@ fn config_fault_report(
     ensures { IfOk result (λ v. view v ≡ config_fault_report fault.now (option_map (λ p. (p.line, p.column)) place)) }
 {
     let pointer = pointer_of(alloc, fault)?;
+    let name = fault_name(fault.kind);
+    let column = column_of(place);
+    let line = line_of(place);
+    placed_fault_report(
+        alloc,
+        column,
+        line,
+        name,
+        fault.number(),
+        pointer.as_slice(),
+    )
+}
+
+#[tactic(auto, unfolding(crate::specs::FaultReport::placed_fault_report))]
+fn placed_fault_report(
+    alloc: Global,
+    column: Option<usize>,
+    line: Option<usize>,
+    name: &str,
+    number: u8,
+    pointer: &[u8],
+) -> Result<Value, AllocError>
+    ensures { IfOk result (λ v. view v ≡ placed_fault_report column line name.now number pointer.now) }
+{
     let report = Object::new(alloc)
-        .number_or_null("column", column_of(place))?
+        .number_or_null("column", column)?
         .text("kind", b"configuration")?
-        .number_or_null("line", line_of(place))?
-        .text("name", fault_name(fault.kind).as_bytes())?
-        .number("number", fault.number() as usize)?
-        .text("pointer", pointer.as_slice())?;
+        .number_or_null("line", line)?
+        .text("name", name.as_bytes())?
+        .number("number", number as usize)?
+        .text("pointer", pointer)?;
     Ok(report.value())
 }

@@ -1,5 +1,5 @@
 -- What is said of the first bytes of an input is said of all of it.
-use Rattle.std.proofs.Common.{◌≡◌, ◌≢◌, ◌∙◌, ◌⊎◌, inl, inr, ◌<◌, ◌≤◌, ℕ, List, Option, Some, None, arith, length, take, subst, sym}
+use Rattle.std.proofs.Common.{◌≡◌, ◌≢◌, ◌∙◌, ◌⊎◌, inl, inr, ◌<◌, ◌≤◌, ℕ, List, Option, Some, arith, length, take, subst, sym}
 use Rattle.mcv_config.specs.Config.{Faulty, size_limit}
 use Rattle.mcv_input.proofs.FirstBytes.{fault_of_known, named_by_all, read_limit, whole}
 use Rattle.mcv_input.specs.Fault.{AreNamedBy, IsInputFault, IsOutside, of_reading}

@@ -116,6 +116,21 @@ too_wide_a_window : faults (codes "mcv" ∷ codes "check" ∷ codes "--window" �
 unfolding clap_on_literals
 too_wide_a_window = refl
 
+draw : faults (codes "mcv" ∷ codes "draw" ∷ []) ≡ []
+unfolding clap_on_literals
+draw = refl
+
+abbrev dot_of : Option (Text × List Row) → Option (Text × Option Text)
+dot_of = option_map (λ p. (p.0, one_of (codes "dot") p.1))
+
+draw_named : dot_of (named (codes "mcv" ∷ codes "draw" ∷ [])) ≡ Some (codes "draw", Some (codes "false"))
+unfolding clap_on_literals
+draw_named = refl
+
+dot_named : dot_of (named (codes "mcv" ∷ codes "draw" ∷ codes "--dot" ∷ [])) ≡ Some (codes "draw", Some (codes "true"))
+unfolding clap_on_literals
+dot_named = refl
+
 mend : faults (codes "mcv" ∷ codes "mend" ∷ []) ≡ []
 unfolding clap_on_literals
 mend = refl

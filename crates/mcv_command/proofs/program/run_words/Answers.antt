@@ -5,7 +5,7 @@ use Rattle.clap.specs.Words.{Text}
 use Rattle.mcv_command.specs.Program.{IsStop}
 use Rattle.mcv_command.specs.declared.stop.Stop.{Stop}
 use Rattle.mcv_command.specs.declared.stop.Stop.TheVariants.{Run}
-use Rattle.mcv_command.proofs.ProgramEnds.{json_asked, json_of_check, judged_whole, judging_stop, listing_stop, mended_whole, mending_stop, outside_unreported, run_is_whole, running_stop, silent_unless_json}
+use Rattle.mcv_command.proofs.ProgramEnds.{drawing_stop, drawn_whole, json_asked, json_of_check, judged_whole, judging_stop, listing_stop, mended_whole, mending_stop, outside_unreported, run_is_whole, running_stop, silent_unless_json}
 use Rattle.mcv_words.specs.Words.{order_of, spool_order_of}
 use Rattle.mcv_command.proofs.program.run_words.Goals as goal
 
@@ -67,6 +67,25 @@ returns-in-Ok-Check-Some-default-clause-silent g c =
     let asks = rw (c.in-Ok-Check-Some-default.field-0-is, c.in-Ok-Check-Some-default.field-0-0-is) at c.in-Ok-Check-Some-default.ensures.job in
     silent_unless_json c.in-Ok-Check-Some-default.options.json c.judge_by.result _ (λ json. (Some c.in-Ok-Check-Some-default.name.now, c.in-Ok-Check-Some-default.options, asks, json)) c.judge_by.ensures.silent
 
+pub returns-in-Ok-Draw-clause-done : goal.returns-in-Ok-Draw-clause-done
+returns-in-Ok-Draw-clause-done g c =
+    let asks = rw c.in-Ok-Draw.field-0-is at c.in-Ok-Draw.ensures.job in
+    IfOk-weaker c.draw.result _ _ (λ ending drawn. inr (inr (inr (inr (inr (inr (c.in-Ok-Draw.dot, asks, drawn))))))) c.draw.ensures.done
+
+pub returns-in-Ok-Draw-clause-stop : goal.returns-in-Ok-Draw-clause-stop
+returns-in-Ok-Draw-clause-stop g c =
+    let words : List Text = map (λ w. w.now) c.args.words.now in
+    let held = g.F.NamedFiles.held c.args.files.now in
+    let known = g.R.Read.remaining c.args.reader.now in
+    let asks = rw c.in-Ok-Draw.field-0-is at c.in-Ok-Draw.ensures.job in
+    IfErr-weaker c.draw.result _ _ (λ stop holds. drawing_stop words held known c.in-Ok-Draw.dot stop asks holds) c.draw.ensures.stop
+
+pub returns-in-Ok-Draw-clause-silent : goal.returns-in-Ok-Draw-clause-silent
+returns-in-Ok-Draw-clause-silent g c = IfErr-weaker c.draw.result _ _ (λ stop silent no_device unasked unlisted unreported. silent no_device) c.draw.ensures.silent
+
+pub returns-in-Ok-Draw-clause-listed : goal.returns-in-Ok-Draw-clause-listed
+returns-in-Ok-Draw-clause-listed g c = λ slot is. absurd (drawn_whole _ (g.R.Read.remaining c.args.reader.now) slot c.draw.ensures.stop is)
+
 pub returns-in-Ok-Mend-clause-done : goal.returns-in-Ok-Mend-clause-done
 returns-in-Ok-Mend-clause-done g c =
     let asks = rw c.in-Ok-Mend.field-0-is at c.in-Ok-Mend.ensures.job in
@@ -121,7 +140,7 @@ returns-in-Ok-Check-Some-default-clause-stop g c =
 pub returns-in-Ok-Spool-clause-done : goal.returns-in-Ok-Spool-clause-done
 returns-in-Ok-Spool-clause-done g c =
     let asks = rw c.in-Ok-Spool.field-0-is at c.in-Ok-Spool.ensures.job in
-    IfOk-weaker c.list_records.result _ _ (λ ending listed. inr (inr (inr (inr (inr (spool_order_of c.in-Ok-Spool.options, asks, listed.0, listed.1)))))) c.list_records.ensures.done
+    IfOk-weaker c.list_records.result _ _ (λ ending listed. inr (inr (inr (inr (inr (inl (spool_order_of c.in-Ok-Spool.options, asks, listed.0, listed.1))))))) c.list_records.ensures.done
 
 pub returns-in-Ok-Spool-clause-stop : goal.returns-in-Ok-Spool-clause-stop
 returns-in-Ok-Spool-clause-stop g c =
@@ -199,6 +218,11 @@ pub returns-in-Ok-Check-Some-default-clause-reported : goal.returns-in-Ok-Check-
 returns-in-Ok-Check-Some-default-clause-reported g c = λ gives.
     let asks = rw (c.in-Ok-Check-Some-default.field-0-is, c.in-Ok-Check-Some-default.field-0-0-is) at c.in-Ok-Check-Some-default.ensures.job in
     c.judge_by.ensures.reported (json_asked _ (Some c.in-Ok-Check-Some-default.name.now) c.in-Ok-Check-Some-default.options asks gives)
+
+pub returns-in-Ok-Draw-clause-reported : goal.returns-in-Ok-Draw-clause-reported
+returns-in-Ok-Draw-clause-reported g c = λ gives.
+    let asks = rw c.in-Ok-Draw.field-0-is at c.in-Ok-Draw.ensures.job in
+    absurd (json_of_check _ (codes "draw") asks.1 gives asks.2 refl)
 
 pub returns-in-Ok-Mend-clause-reported : goal.returns-in-Ok-Mend-clause-reported
 returns-in-Ok-Mend-clause-reported g c = λ gives.

@@ -1,4 +1,4 @@
-use Rattle.std.proofs.Common.{◌≡◌, ◌∙◌, ◌∷◌, ◌++◌, [], List, ap, arith, map, refl, vec_len}
+use Rattle.std.proofs.Common.{◌≡◌, ◌∙◌, ◌∷◌, ◌++◌, [], ap, arith, map, refl, vec_len}
 use Rattle.mcv_route.specs.View.{view}
 use Rattle.mcv_draw.specs.Drawn.{top}
 use Rattle.mcv_draw.specs.Element.{rows_of}

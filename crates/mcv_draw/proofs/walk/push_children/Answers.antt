@@ -1,4 +1,4 @@
-use Rattle.std.proofs.Common.{◌≡◌, ◌-◌, ◌++◌, ℕ, suc, arith, map, subst, sym, ap}
+use Rattle.std.proofs.Common.{◌≡◌, ◌-◌, ◌++◌, ℕ, suc, arith, map, subst, sym}
 use Rattle.mcv_route.specs.View.{view}
 use Rattle.mcv_draw.specs.Drawn.{branch_to}
 use Rattle.mcv_draw.specs.Marks.{marks_of}

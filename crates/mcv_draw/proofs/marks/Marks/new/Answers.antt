@@ -1,5 +1,3 @@
-use Rattle.std.proofs.Common.{◌≡◌, ℕ, Bool, List, Option, ap, refl}
-use Rattle.std.specs.List.Sorted.{IsPermutation}
 use Rattle.mcv_draw.proofs.SameMarks.{same_marks}
 use Rattle.mcv_draw.proofs.marks.Marks.new.Goals as goal
 
