@@ -159,7 +159,7 @@ module _ (opened_of : ℕ → CoreView) (hubs : ℕ) (request : Request) where
   pub refused_each : (cause : CoreFault) (fault : DeskFault) → fault ≡ desk_fault cause → IsKeyRefused opened_of hubs request cause → AsksHubs opened_of hubs (request_value request) (Err fault)
   refused_each cause fault is refused = inr (inr (record { asked = request; its = refl; cause = cause; is = is; refused = refused }))
 
--- what follows of an answer that is Ok
-pub on_ok : {A B X Y : Type 0} (r : Result A B) → (X → Y) → OnOk r X → OnOk r Y
-on_ok (Ok v) f x = f x
-on_ok (Err fault) f x = tt
+-- as many calls as keys, and as many replies as calls
+pub as_many : {A B : Type 0} (r : Result A B) (replies calls alone keys : ℕ) → replies ≡ calls → OnOk r (calls ≡ alone) → alone ≡ keys → OnOk r (replies ≡ keys)
+as_many (Ok v) replies calls alone keys taken begun each = taken ∙ begun ∙ each
+as_many (Err fault) replies calls alone keys taken begun each = tt

@@ -1,4 +1,4 @@
-use Rattle.std.proofs.Common.{List, Global, ap, arith, length, sym, subst}
+use Rattle.std.proofs.Common.{◌∙◌, List, Global, ap, arith, length, sym, subst}
 use Rattle.std.specs.declared.sync.Arc.{Arc}
 use Rattle.std.proofs.lemmas.Result.{err_from_is_err_and}
 use Rattle.mcv_base.specs.declared.request.Request.{Request}
@@ -7,7 +7,7 @@ use Rattle.mcv_proxy.proofs.Books.{always_ok}
 use Rattle.mcv_text.specs.Request.{request_value}
 use Rattle.mcv_fleet.specs.Desks.{AreBegunAt}
 use Rattle.mcv_fleet.specs.OneKey.{AreOfKeys}
-use Rattle.mcv_fleet.proofs.KeysOfHubs.{on_ok}
+use Rattle.mcv_fleet.proofs.KeysOfHubs.{as_many}
 use Rattle.mcv_fleet.proofs.desks.HubsDesk.take_replies.Goals as goal
 
 -- each key alone
@@ -46,10 +46,7 @@ returns-clause-taken g c = always_ok c.begin_each-begun.result (rw c.in_ok-outco
 pub returns-clause-all : goal.returns-clause-all
 returns-clause-all g c =
     let taken = rw c.in_ok-outcome.was at c.take_each-outcome.ensures.all in
-    let calls = c.as_slice.ensures.len in
-    let size = ap length c.as_slice-of_keys.ensures.value in
-    let each = c.requires.of_keys.one_each in
-    on_ok c.begin_each-begun.result (λ begun. omega (arith, begun, taken, calls, size, each)) c.begin_each-begun.ensures.all
+    as_many c.begin_each-begun.result _ _ _ _ (taken ∙ c.as_slice.ensures.len) c.begin_each-begun.ensures.all (ap length c.as_slice-of_keys.ensures.value ∙ c.requires.of_keys.one_each)
 
 -- a reply wasn't there
 pub returns-in_err-outcome-clause-err : goal.returns-in_err-outcome-clause-err
