@@ -1,8 +1,8 @@
 -- Replies that were taken.
-use Rattle.std.proofs.Common.{◌≡◌, ◌∙◌, ◌+◌, ◌<◌, ◌≤◌, ◌++◌, ◌∷◌, [], ℕ, zero, suc, List, Option, None, Some, Result, Ok, Err, inr, ap, get_or, length, map, refl, sym, subst, take, arith}
+use Rattle.std.proofs.Common.{◌≡◌, ◌∙◌, ◌+◌, ◌<◌, ◌≤◌, ◌++◌, ◌∷◌, [], ℕ, List, Option, None, Some, Result, Ok, Err, inr, ap, get_or, length, map, refl, sym, subst, take, arith}
 use Rattle.std.specs.Prelude.{IfErr, IfOk, IfSome}
 use Rattle.std.specs.List.{All}
-use Rattle.std.proofs.lemmas.List.{length-map, length_push, map_push, take_more, take_all}
+use Rattle.std.proofs.lemmas.List.{length_push, map_push, take_more, take_all}
 use Rattle.std.proofs.lemmas.List.Elements.{All-head, All-nil, All-push, Contains-get_or}
 use Rattle.mcv_base.specs.Reply.{part_value}
 use Rattle.mcv_base.specs.declared.request.CallId.{CallId}
@@ -13,7 +13,7 @@ use Rattle.mcv_core.specs.declared.fault.CoreFault.TheVariants.{NoSuchCall}
 use Rattle.mcv_hub.specs.Events.{IsReceived}
 use Rattle.mcv_hub.specs.State.{HistoryKeepsDeletes, HubView, IsCallOf, IsOf, Replies}
 use Rattle.mcv_hub.specs.declared.seat.TakenReply.{TakenReply}
-use Rattle.mcv_proxy.specs.Desk.{AreTaken, HasMissing, HasOtherReply, IsOnlyReplyFor, IsReplyFor, IsUntaken, WasMissing, WasTaken}
+use Rattle.mcv_proxy.specs.Desk.{AreTaken, HasOtherReply, IsUntaken, WasMissing, WasTaken}
 use Rattle.mcv_text.specs.Request.{RequestValue}
 
 -- by what the hub says of a reply that it hands out
@@ -80,34 +80,11 @@ all_taken start calls done taken all h = h.all refl ∙ take_all done calls all
 
 -- ---- of one call
 
-pub one_was_taken : (start : CoreView) (taken : List TakenReply) (t : TakenReply) → taken ≡ t ∷ [] → All (WasTaken start) taken → WasTaken start t
+one_was_taken : (start : CoreView) (taken : List TakenReply) (t : TakenReply) → taken ≡ t ∷ [] → All (WasTaken start) taken → WasTaken start t
 one_was_taken start taken t e h = All-head (WasTaken start) t [] (subst (All (WasTaken start)) e h)
-
-pub call_of_one : (taken : List TakenReply) (t : TakenReply) (call : CallId) → taken ≡ t ∷ [] → map (λ t. t.receipt.call) taken ≡ call ∷ [] → t.receipt.call ≡ call
-call_of_one taken t call e h =
-    let m : t.receipt.call ∷ [] ≡ call ∷ [] = sym (ap (map (λ t. t.receipt.call)) e) ∙ h in
-    cc
-
-only_one : (call x : CallId) (k : ℕ) → k < 1 → get_or (call ∷ []) k x ≡ x → call ≡ x
-only_one call x zero lt e = e
-only_one call x (suc k) lt e = absurd (omega arith)
-
-pub one_was_missing : (start : CoreView) (call : CallId) → HasMissing start (call ∷ []) → WasMissing start call
-one_was_missing start call h = subst (WasMissing start) (sym (only_one call h.call h.one.0 h.one.1 h.one.2)) h.was
 
 -- what is answered of a call, by the only reply that was taken
 module _ (start : CoreView) (request : RequestValue) (key : ℕ) (call : CallId) (taken : List TakenReply) where
-  pub reply_of_one : (r : Result TakenReply CoreFault) → All (WasTaken start) taken → IfOk r (IsOnlyReplyFor start.routes request key taken) → IfOk r (IsReplyFor start request key)
-  reply_of_one (Ok t) each h = record { taken = one_was_taken start taken t h.only each; for_key = h.for_key }
-  reply_of_one (Err fault) each h = tt
-
-  pub call_of_reply : (r : Result TakenReply CoreFault) → map (λ t. t.receipt.call) taken ≡ call ∷ [] → IfOk r (IsOnlyReplyFor start.routes request key taken) → IfOk r (λ t. t.receipt.call ≡ call)
-  call_of_reply (Ok t) calls h = call_of_one taken t call h.only calls
-  call_of_reply (Err fault) calls h = tt
-
   pub untaken_of_one : (r : Result TakenReply CoreFault) → All (WasTaken start) taken → IfErr r (HasOtherReply start.routes request key taken) → IfErr r (IsUntaken start request key call)
   untaken_of_one (Ok t) each h = tt
   untaken_of_one (Err fault) each h = record { is = h.is; why = inr (record { reply = h.reply; taken = one_was_taken start taken h.reply h.only each; other = h.other }) }
-
-pub one_call_has_one_reply : (taken : List TakenReply) (call : CallId) → map (λ t. t.receipt.call) taken ≡ call ∷ [] → length taken ≡ 1
-one_call_has_one_reply taken call e = sym (length-map taken (λ t. t.receipt.call)) ∙ ap length e
