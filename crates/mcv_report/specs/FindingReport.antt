@@ -1,0 +1,73 @@
+-- The report on a finding (own). docs/report.schema.json has its schema.
+use Rattle.std.specs.Prelude.{ℕ, zero, suc, List, [], ◌∷◌, ◌++◌, Option, Some, None, codes, if◌then◌else◌, map, nat_lt, slice_get, slice_index}
+use Rattle.std.specs.List.{flat_map}
+use Rattle.serde_json.specs.Data.{Data}
+use Rattle.mcv_base.specs.declared.operation.Op.{Op}
+use Rattle.mcv_base.specs.declared.operation.Op.TheVariants.{Delete}
+use Rattle.mcv_base.specs.declared.reply.Outcome.{Outcome}
+use Rattle.mcv_base.specs.Operation.{op_name}
+use Rattle.mcv_base.specs.Position.{position_text}
+use Rattle.mcv_cert.specs.Escape.{escaped}
+use Rattle.mcv_pools.specs.Symbol.{SymbolValue}
+use Rattle.mcv_route.specs.Outcomes.{History}
+use Rattle.mcv_witness.specs.Text.{func_name, outcome_word}
+use Rattle.mcv_explain.specs.Scene.{SceneValue, handle_pointer, leg_server, lost_server, route_of, server_pointer}
+use Rattle.mcv_report.specs.Json.{list_from, number_from, number_or_null, object_from, schema_version, text_from}
+
+-- a leg: its position, its handle, its server, and what it answers
+abbrev pub leg_report : SceneValue → Op → List ℕ × Outcome → Data
+leg_report s op e = object_from (
+    (codes "handle", text_from (handle_pointer s e.0))
+    ∷ (codes "outcome", text_from (outcome_word op e.1))
+    ∷ (codes "position", text_from (position_text e.0))
+    ∷ (codes "server", text_from (leg_server s e.0))
+    ∷ (codes "server_pointer", text_from (server_pointer s e.0)) ∷ [])
+
+abbrev pub leg_reports : SceneValue → Op → History → Data
+leg_reports s op es = list_from (map (leg_report s op) es)
+
+-- the index that a symbol's hash picks
+abbrev pub index_report : SymbolValue → ℕ → Data
+index_report y i = object_from (
+    (codes "func", text_from (func_name y.func))
+    ∷ (codes "index", number_from i)
+    ∷ (codes "salt", text_from (escaped y.salt))
+    ∷ (codes "servers", number_from y.n) ∷ [])
+
+-- of the symbols over more than one server from number k on, in the order of the table
+abbrev pub index_list : List ℕ → ℕ → List SymbolValue → List Data
+index_list choice k [] = []
+index_list choice k (y ∷ ys) = (if nat_lt 1 y.n then index_report y (slice_index choice k) ∷ [] else []) ++ index_list choice (suc k) ys
+
+-- the break that opened an era: none opened the first
+abbrev pub opened_at : (table : List ℕ) → (era : ℕ) → Option ℕ
+opened_at table zero = None
+opened_at table (suc k) = slice_get table k
+
+-- class, key and salt are escaped as a class word is. Of the delete's era `from` is the moment at which it begins, `until` the one at which it is over; of the read's `get_from` and `get_until`
+abbrev pub finding_report : SceneValue → (table : List ℕ) → Data
+finding_report s table = object_from (
+    (codes "class", text_from (escaped s.finding.place.spot.class))
+    ∷ (codes "deletes", leg_reports s Delete s.finding.deletes)
+    ∷ (codes "era", number_from s.finding.place.spot.era)
+    ∷ (codes "from", number_or_null (opened_at table s.finding.place.spot.era))
+    ∷ (codes "get_era", number_from s.finding.place.spot.get_era)
+    ∷ (codes "get_from", number_or_null (opened_at table s.finding.place.spot.get_era))
+    ∷ (codes "get_until", number_or_null (slice_get table s.finding.place.spot.get_era))
+    ∷ (codes "gets", leg_reports s s.finding.op s.finding.gets)
+    ∷ (codes "indexes", list_from (index_list s.finding.choice 0 s.routes.symbols))
+    ∷ (codes "key", text_from (escaped s.finding.key))
+    ∷ (codes "leaf", text_from (position_text s.finding.place.leaf))
+    ∷ (codes "operation", text_from (op_name s.finding.op))
+    ∷ (codes "route", number_from (route_of s))
+    ∷ (codes "route_pointer", text_from (handle_pointer s []))
+    ∷ (codes "server", text_from (lost_server s))
+    ∷ (codes "server_pointer", text_from (server_pointer s s.finding.place.leaf))
+    ∷ (codes "until", number_or_null (slice_get table s.finding.place.spot.era)) ∷ [])
+
+abbrev pub lost_report : SceneValue → (table : List ℕ) → Data
+lost_report s table = object_from (
+    (codes "finding", finding_report s table)
+    ∷ (codes "schema_version", number_from schema_version)
+    ∷ (codes "verdict", text_from (codes "lost"))
+    ∷ (codes "window", number_from s.finding.window) ∷ [])

@@ -1,0 +1,4 @@
+pub mod Json
+pub mod FindingReport
+pub mod CertificateReport
+pub mod FaultReport

@@ -1,0 +1,94 @@
+-- What is said of the first bytes of an input is said of all of it.
+use Rattle.std.proofs.Common.{◌≡◌, ◌≢◌, ◌∙◌, ◌⊎◌, inl, inr, ◌+◌, ◌<◌, ◌≤◌, ℕ, Bool, List, Option, Some, None, ap, arith, length, take, subst, sym}
+use Rattle.std.specs.Prelude.{count_by, ◌==◌}
+use Rattle.std.proofs.lemmas.List.{length-take, take-take}
+use Rattle.mcv_config.specs.Config.{Faulty, size_limit}
+use Rattle.mcv_faults.specs.TextPlace.{IsPlaceIn, column_behind}
+use Rattle.mcv_input.proofs.FirstBytes.{fault_of_known, named_by_all, read_limit, whole}
+use Rattle.mcv_input.specs.Fault.{AreNamedBy, IsInputFault, IsOutside, of_reading}
+use Rattle.mcv_input.specs.declared.fault.RunFault.{RunFault}
+use Rattle.mcv_input.specs.declared.fault.RunFault.TheVariants.{Line, NoRoute, Config, CertificateText, Certificate, Window, Memory, Device}
+use Rattle.mcv_names.specs.Fault.{Refuses}
+use Rattle.mcv_names.specs.declared.fault.ReadFault.{ReadFault}
+use Rattle.mcv_names.specs.declared.fault.ReadFault.TheVariants as read_faults
+use Rattle.mcv_route.specs.Routes.{RoutesValue}
+use Rattle.mcv_verdict.specs.Fault.{IsRunFault}
+use Rattle.mcv_verdict.specs.declared.verdict.Verdict.{Verdict}
+use Rattle.mcv_words.specs.declared.options.CheckOptions.{CheckOptions}
+use Rattle.mcv_show.specs.Drawing.{IsDrawnOn}
+use Rattle.mcv_show.specs.Shown.{IsFaultText, IsPlaceOf, IsShownOn}
+
+-- what refuses a text is a fault of it
+pub refused_input : (text : List ℕ) (fault : ReadFault) → Refuses fault (Faulty text) → IsInputFault text (of_reading fault)
+refused_input text (read_faults.Config fault) is = is
+refused_input text read_faults.Memory is = tt
+
+-- a configuration that names routes is within the limit, so all of it was read
+pub shown_whole : (o : CheckOptions) (first bytes : List ℕ) (certificate : Option (List ℕ)) (verdict : Verdict) (text : List ℕ) → first ≡ take read_limit bytes
+    → IsShownOn o first certificate verdict text → IsShownOn o bytes certificate verdict text
+shown_whole o first bytes certificate verdict text is on =
+    let short : length first ≤ size_limit = on.1.1.0 in
+    let cut : length (take read_limit bytes) < read_limit = subst (λ (xs : List ℕ). length xs < read_limit) is (omega arith) in
+    subst (λ (xs : List ℕ). IsShownOn o xs certificate verdict text) (is ∙ whole read_limit bytes cut) on
+
+place_in : (n : ℕ) (bytes : List ℕ) (place : ℕ × ℕ) → IsPlaceIn (take n bytes) place → IsPlaceIn bytes place
+place_in n bytes place at =
+    let short : at.0 ≤ n = omega (arith, length-take n bytes, at.1) in
+    let low : at.0 ≤ length bytes = omega (arith, length-take n bytes, at.1) in
+    let same : take at.0 (take n bytes) ≡ take at.0 bytes = take-take at.0 n bytes short in (
+      at.0,
+      low,
+      at.2 ∙ ap (λ (xs : List ℕ). 1 + count_by (λ b. b == 10) xs) same,
+      at.3 ∙ ap (λ (xs : List ℕ). column_behind xs 1) same,
+    )
+
+pub place_whole : (first bytes : List ℕ) (place : Option (ℕ × ℕ)) → first ≡ take read_limit bytes → IsPlaceOf first place → IsPlaceOf bytes place
+place_whole first bytes None is at = tt
+place_whole first bytes (Some place) is at = place_in read_limit bytes place (subst (λ (xs : List ℕ). IsPlaceIn xs place) is at)
+
+-- the report on a fault names a line of the whole input
+pub fault_whole : (first bytes : List ℕ) (fault : RunFault) (text : List ℕ) → first ≡ take read_limit bytes → IsFaultText first fault text → IsFaultText bytes fault text
+fault_whole first bytes (Config fault) text is said = (said.0, place_whole first bytes said.0 is said.1, said.2)
+fault_whole first bytes (CertificateText fault) text is said = said
+fault_whole first bytes (Certificate fault) text is said = said
+fault_whole first bytes Window text is said = said
+fault_whole first bytes Line text is said = said
+fault_whole first bytes NoRoute text is said = said
+fault_whole first bytes Memory text is said = said
+fault_whole first bytes Device text is said = said
+
+named_whole : (first bytes : List ℕ) (r : RoutesValue) → first ≡ take read_limit bytes → AreNamedBy first r → AreNamedBy bytes r
+named_whole first bytes r is named = named_by_all bytes r (subst (λ (xs : List ℕ). AreNamedBy xs r) is named)
+
+-- a fault of what was read is one of the whole input
+pub run_fault_whole : (first bytes : List ℕ) (window : ℕ) (certificate : Option (List ℕ)) (fault : RunFault) → first ≡ take read_limit bytes → IsRunFault first window certificate fault
+    → IsRunFault bytes window certificate fault
+run_fault_whole first bytes window certificate Line is holds = holds
+run_fault_whole first bytes window certificate NoRoute is holds = holds
+run_fault_whole first bytes window certificate (Config fault) is holds = fault_of_known (Some bytes) first (read_faults.Config fault) is holds
+run_fault_whole first bytes window certificate (CertificateText fault) is holds = (holds.0, named_whole first bytes holds.0 is holds.1, holds.2)
+run_fault_whole first bytes window certificate (Certificate fault) is holds = (holds.0, named_whole first bytes holds.0 is holds.1, holds.2)
+run_fault_whole first bytes window certificate Window is holds = (holds.0, named_whole first bytes holds.0 is holds.1, holds.2)
+run_fault_whole first bytes window certificate Memory is holds = tt
+run_fault_whole first bytes window certificate Device is holds = tt
+
+-- what is drawn of what was read is drawn of the whole input
+pub drawn_whole : (dot : Bool) (first bytes : List ℕ) (verdict : Verdict) (text : List ℕ) → first ≡ take read_limit bytes → IsDrawnOn dot first verdict text → IsDrawnOn dot bytes verdict text
+drawn_whole dot first bytes verdict text is on = (on.0, named_whole first bytes on.0 is on.1, on.2)
+
+-- the fault of a run, or what came in reporting it
+pub reported_fault : (input : List ℕ) (window : ℕ) (certificate : Option (List ℕ)) (fault found : RunFault) → (found ≡ fault) ⊎ IsOutside found → IsRunFault input window certificate fault
+    → IsRunFault input window certificate found
+reported_fault input window certificate fault found (inl same) is = subst (λ (f : RunFault). IsRunFault input window certificate f) (sym same) is
+reported_fault input window certificate fault found (inr (inl memory)) is = subst (λ (f : RunFault). IsRunFault input window certificate f) (sym memory) tt
+reported_fault input window certificate fault found (inr (inr device)) is = subst (λ (f : RunFault). IsRunFault input window certificate f) (sym device) tt
+
+-- what is no fault of what was read came from outside
+pub not_outside : (fault : RunFault) → IsOutside fault → fault ≢ Memory → fault ≢ Device → ⊥
+not_outside fault (inl memory) no_memory no_device = no_memory memory
+not_outside fault (inr device) no_memory no_device = no_device device
+
+-- the text reports the fault that is told, where no device failed
+pub reported_text : (input : List ℕ) (fault found : RunFault) (text : List ℕ) → (found ≡ fault) ⊎ (found ≡ Device) → found ≢ Device → IsFaultText input fault text → IsFaultText input found text
+reported_text input fault found text (inl same) no_device said = subst (λ (f : RunFault). IsFaultText input f text) (sym same) said
+reported_text input fault found text (inr device) no_device said = absurd (no_device device)
