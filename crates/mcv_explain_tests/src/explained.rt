@@ -41,7 +41,7 @@ fn check_explained(
     routes: &Routes,
     finding: &Finding,
 ) -> Result<(), Fail> {
-    let document = read_document(alloc, LOST.as_bytes()).expect(rt, "JSON");
+    let document = read_document(alloc, LOST.as_bytes())?.expect(rt, "JSON");
     check_scene(
         rt,
         alloc,

@@ -48,7 +48,8 @@ fn check_place(rt: &(impl AllocGlobal + Abort), case: &str) {
     let (numbers, index) = leg.split_once(" index ").expect(rt, "a case");
     let position = position_of(rt, numbers);
     let index = index.parse::<usize>().expect(rt, "an index");
-    let document = read_document(rt.alloc(), CONFIG.as_bytes()).expect(rt, "JSON");
+    let document = read_document(rt.alloc(), CONFIG.as_bytes()).expect(rt, "memory");
+    let document = document.expect(rt, "JSON");
     let found = handle_at(rt.alloc(), &document, 0, &position).expect(rt, "memory");
     assert!(rt; is_at(found, handle), "{case}");
     let found = server_at(rt.alloc(), &document, 0, &position, index).expect(rt, "memory");

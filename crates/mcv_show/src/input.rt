@@ -38,7 +38,7 @@ pub(crate) fn configuration_of(alloc: Global, text: &[u8]) -> Result<Configurati
 {
     let routes = read_routes(alloc, text)?;
     // A text that names routes is JSON.
-    let Some(document) = read_document(alloc, text) else {
+    let Some(document) = read_document(alloc, text)? else {
         return Err(RunFault::Memory);
     };
     Ok(Configuration { document, routes })
