@@ -1,11 +1,10 @@
 -- How the program ends: its exit status, and what it says on standard error where it stops early (own).
-use Rattle.std.specs.Prelude.{◌≡◌, ℕ, ◌++◌, Option, Result, Ok, Err, codes}
+use Rattle.std.specs.Prelude.{◌≡◌, ℕ, ◌++◌, Result, Ok, Err, codes}
 use Rattle.clap.specs.Words.{Text}
-use Rattle.mcv_faults.specs.FaultLine.{fault_line}
 use Rattle.mcv_input.specs.Fault.{run_fault_status, run_fault_text}
 use Rattle.mcv_input.specs.declared.fault.RunFault.TheVariants as run_faults
 use Rattle.mcv_names.specs.declared.fault.ConfigFault.{ConfigFault}
-use Rattle.mcv_show.specs.Shown.{IsPlaceOf, IsSaidOf}
+use Rattle.mcv_show.specs.Shown.{IsDetailOf}
 use Rattle.mcv_command.specs.declared.stop.Ending.{Ending}
 use Rattle.mcv_command.specs.declared.stop.Ending.TheVariants.{Done, Lost}
 use Rattle.mcv_command.specs.declared.stop.Stop.{Stop}
@@ -31,10 +30,6 @@ ended_status (Ok ending) = ending_status ending
 ended_status (Err stop) = stop_status stop
 
 -- ---- the second line
-
--- the name of a fault of the configuration, the text at fault where it is one, and where it stands
-abbrev pub IsDetailOf : (input : Text) → ConfigFault → (line : Text) → Type 0
-IsDetailOf input fault line = (said : Option Text) × (place : Option (ℕ × ℕ)) × IsPlaceOf input place × IsSaidOf input place said × (line ≡ fault_line fault.kind said place)
 
 -- the program ended with a fault of the configuration, which is the input, and the line says more of it
 abbrev pub IsSecondLine : (input : Text) → Result Ending Stop → (line : Text) → Type 0

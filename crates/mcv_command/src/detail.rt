@@ -1,9 +1,10 @@
 //! What the program says on standard error behind the line of a fault of the configuration.
 
 ghost use Rattle.std.specs.Prelude.{◌≡◌, Err, IfSome, string_bytes};
-ghost use Rattle.mcv_command.specs.Stop.{IsDetailOf, IsSecondLine};
+ghost use Rattle.mcv_command.specs.Stop.{IsSecondLine};
 ghost use Rattle.mcv_command.specs.declared.stop.Stop.TheVariants.{Run};
 ghost use Rattle.mcv_input.specs.declared.fault.RunFault.TheVariants.{Config};
+ghost use Rattle.mcv_show.specs.Shown.{IsDetailOf};
 
 use crate::stop::{Ending, Stop};
 use mcv_input::RunFault;

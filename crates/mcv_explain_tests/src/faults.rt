@@ -25,15 +25,13 @@ const POINTERS: &str = "\
 /route/children/1 => /route/children/1";
 
 fn check_place(rt: &impl Abort, alloc: Global, path: &str, wanted: &str) -> Result<(), Fail> {
-    let line = match standing_of(alloc, CONFIG.as_bytes(), path.as_bytes())? {
-        Some(standing) => fault_line(
-            alloc,
-            FaultKind::UnknownPool,
-            standing.text.as_ref().map(|text| text.as_str()),
-            Some(standing.place),
-        )?,
-        None => fault_line(alloc, FaultKind::UnknownPool, None, None)?,
-    };
+    let standing = standing_of(alloc, CONFIG.as_bytes(), path.as_bytes())?;
+    let line = fault_line(
+        alloc,
+        FaultKind::UnknownPool,
+        standing.text.as_ref().map(|text| text.as_str()),
+        standing.place,
+    )?;
     check_text(rt, line.as_slice(), wanted);
     Ok(())
 }

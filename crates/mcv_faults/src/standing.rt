@@ -1,62 +1,82 @@
-//! Where a fault stands in the text of a configuration.
+//! The value at fault in the text of a configuration.
 
-ghost use Rattle.std.specs.Prelude.{◌≡◌, Some, IfOk, IfSome, option_and_then, option_map, string_bytes};
+ghost use Rattle.std.specs.Prelude.{◌≡◌, true, None, IfOk, IfSome, option_map, string_bytes};
+ghost use Rattle.serde_json.specs.Data.{Data};
 ghost use Rattle.serde_json.specs.Find.{as_str};
-ghost use Rattle.serde_json.specs.Read.{read};
-ghost use Rattle.mcv_faults.specs.TextPlace.{IsPlaceIn, IsSaidAt};
+ghost use Rattle.serde_json.specs.View.{view};
+ghost use Rattle.mcv_places.specs.Document.{IsDocument};
+ghost use Rattle.mcv_faults.specs.TextPlace.{IsPlaceAt, IsSaidAt, StandsAt, StandsIn, at_fault, text_at_fault};
 
 use crate::place::{TextPlace, place_at};
-use crate::pointer::{escaped_byte, is_escape};
+use crate::pointer::{escaped_byte, fault_pointer, is_escape};
+use mcv_places::read_document;
 use mcv_spans::{Located, Span, locate};
 use serde_json::Value;
 use std::alloc::{AllocError, Global};
 use std::str::from_utf8;
 
-/// Where the value at fault stands, and its text where it is one.
+/// What is known of the value at fault.
 #[derive(Drop)]
 pub struct Standing {
-    pub place: TextPlace,
+    /// Where it stands in the text, where that is known.
+    pub place: Option<TextPlace>,
+    /// Its text, where it is one.
     pub text: Option<String>,
 }
 
-/// Where the value at a fault's path stands in the text; None where it isn't there.
-pub fn standing_of(alloc: Global, text: &[u8], path: &[u8]) -> Result<Option<Standing>, AllocError>
-    ensures place { IfOk result (λ found. IfSome found (λ s. IsPlaceIn text.now (s.place.line, s.place.column))) }
-    ensures said { IfOk result (λ found. IfSome found (λ s. IsSaidAt text.now (s.place.line, s.place.column) (option_map string_bytes s.text))) }
+/// What is known of the value at a fault's path in the text of a configuration: nothing, where the text is no JSON or has
+/// no such value.
+pub fn standing_of(alloc: Global, text: &[u8], path: &[u8]) -> Result<Standing, AllocError>
+    ensures said { IfOk result (λ s. IsSaidAt text.now path.now (option_map string_bytes s.text)) }
+    ensures place { IfOk result (λ s. IsPlaceAt text.now path.now (option_map (λ p. (p.line, p.column)) s.place)) }
 {
-    let Some(root) = locate(alloc, text)? else {
-        return Ok(None);
-    };
-    let Some(value) = value_at(alloc, &root, path)? else {
-        return Ok(None);
-    };
-    let Span { start, end } = value.span();
-    if start > end || end > text.len() {
-        return Ok(None);
+    match read_document(alloc, text)? {
+        Some(document) => standing_in(alloc, text, path, &document),
+        None => Ok(unknown()),
     }
-    let said = text_of(alloc, value, &text[start..end])?;
-    Ok(Some(Standing {
-        place: place_at(text, start),
-        text: said,
-    }))
 }
 
-/// The text that a value is, as its bytes read; None where it is no text.
-fn text_of(alloc: Global, value: &Located, bytes: &[u8]) -> Result<Option<String>, AllocError>
-    ensures { IfOk result (λ said. IfSome said (λ s. option_and_then as_str (read bytes.now) ≡ Some (string_bytes s))) }
+/// What is known where there is no value.
+fn unknown() -> Standing
+    ensures { result ≡ record { place = None; text = None } }
 {
-    if value.text().is_none() {
-        return Ok(None);
+    Standing {
+        place: None,
+        text: None,
     }
-    match Value::from_slice(alloc, bytes) {
-        Ok(parsed) => copied(alloc, parsed.as_str()),
-        Err(fault) => {
-            if fault.is_memory() {
-                return Err(AllocError);
-            }
-            Ok(None)
-        }
+}
+
+/// The same in the value of the text.
+fn standing_in(
+    alloc: Global,
+    text: &[u8],
+    path: &[u8],
+    document: &Value,
+) -> Result<Standing, AllocError>
+    ensures said { IfOk result (λ s. option_map string_bytes s.text ≡ text_at_fault path.now (view document.now)) }
+    ensures place { IfOk result (λ s. IfSome s.place (λ p. StandsIn text.now (at_fault path.now (view document.now)) (p.line, p.column))) }
+{
+    let pointer = fault_pointer(alloc, path)?;
+    let pointer = String::from_utf8_lossy(alloc, pointer.as_slice())?;
+    match document.pointer(pointer.as_str()) {
+        Some(value) => standing_at(alloc, text, path, value),
+        None => Ok(unknown()),
     }
+}
+
+/// The same of the value at the path.
+fn standing_at(
+    alloc: Global,
+    text: &[u8],
+    path: &[u8],
+    value: &Value,
+) -> Result<Standing, AllocError>
+    ensures said { IfOk result (λ s. option_map string_bytes s.text ≡ as_str (view value.now)) }
+    ensures place { IfOk result (λ s. IfSome s.place (λ p. StandsAt text.now (p.line, p.column) (view value.now))) }
+{
+    let place = place_of(alloc, text, path, value)?;
+    let said = copied(alloc, value.as_str())?;
+    Ok(Standing { place, text: said })
 }
 
 fn copied(alloc: Global, text: Option<&str>) -> Result<Option<String>, AllocError>
@@ -66,6 +86,62 @@ fn copied(alloc: Global, text: Option<&str>) -> Result<Option<String>, AllocErro
         Some(text) => Ok(Some(String::from_str(alloc, text)?)),
         None => Ok(None),
     }
+}
+
+// ---- where it stands
+
+/// Where the value at a path stands; None where that isn't known.
+fn place_of(
+    alloc: Global,
+    text: &[u8],
+    path: &[u8],
+    value: &Value,
+) -> Result<Option<TextPlace>, AllocError>
+    ensures { IfOk result (λ place. IfSome place (λ p. StandsAt text.now (p.line, p.column) (view value.now))) }
+{
+    let Some(Span { start, end }) = span_at(alloc, text, path)? else {
+        return Ok(None);
+    };
+    if start > end || end > text.len() {
+        return Ok(None);
+    }
+    if !reads_as(alloc, &text[start..end], value)? {
+        return Ok(None);
+    }
+    Ok(Some(place_at(text, start)))
+}
+
+/// Whether bytes are JSON, and where the value is a text, that text.
+fn reads_as(alloc: Global, bytes: &[u8], value: &Value) -> Result<bool, AllocError>
+    ensures { IfOk result (λ is. is ≡ true → (e : Data) × IsDocument bytes.now e × (as_str e ≡ as_str (view value.now))) }
+{
+    match read_document(alloc, bytes)? {
+        Some(there) => Ok(is_same_text(there.as_str(), value.as_str())),
+        None => Ok(false),
+    }
+}
+
+fn is_same_text(one: Option<&str>, other: Option<&str>) -> bool
+    ensures { result ≡ true → option_map (λ t. t.now) one.entry ≡ option_map (λ t. t.now) other.entry }
+{
+    match one {
+        Some(one) => match other {
+            Some(other) => one == other,
+            None => false,
+        },
+        None => other.is_none(),
+    }
+}
+
+/// Where the value at a path may stand in the text: who asks reads what stands there.
+fn span_at(alloc: Global, text: &[u8], path: &[u8]) -> Result<Option<Span>, AllocError> {
+    let Some(root) = locate(alloc, text)? else {
+        return Ok(None);
+    };
+    let Some(value) = value_at(alloc, &root, path)? else {
+        return Ok(None);
+    };
+    Ok(Some(value.span()))
 }
 
 /// The value at a path.

@@ -1,9 +1,6 @@
 -- What is said of the first bytes of an input is said of all of it.
-use Rattle.std.proofs.Common.{◌≡◌, ◌≢◌, ◌∙◌, ◌⊎◌, inl, inr, ◌+◌, ◌<◌, ◌≤◌, ℕ, Bool, List, Option, Some, None, ap, arith, length, take, subst, sym}
-use Rattle.std.specs.Prelude.{count_by, ◌==◌}
-use Rattle.std.proofs.lemmas.List.{length-take, take-take}
+use Rattle.std.proofs.Common.{◌≡◌, ◌≢◌, ◌∙◌, ◌⊎◌, inl, inr, ◌<◌, ◌≤◌, ℕ, Bool, List, Option, Some, None, arith, length, take, subst, sym}
 use Rattle.mcv_config.specs.Config.{Faulty, size_limit}
-use Rattle.mcv_faults.specs.TextPlace.{IsPlaceIn, column_behind}
 use Rattle.mcv_input.proofs.FirstBytes.{fault_of_known, named_by_all, read_limit, whole}
 use Rattle.mcv_input.specs.Fault.{AreNamedBy, IsInputFault, IsOutside, of_reading}
 use Rattle.mcv_input.specs.declared.fault.RunFault.{RunFault}
@@ -16,7 +13,7 @@ use Rattle.mcv_verdict.specs.Fault.{IsRunFault}
 use Rattle.mcv_verdict.specs.declared.verdict.Verdict.{Verdict}
 use Rattle.mcv_words.specs.declared.options.CheckOptions.{CheckOptions}
 use Rattle.mcv_show.specs.Drawing.{IsDrawnOn}
-use Rattle.mcv_show.specs.Shown.{IsFaultText, IsPlaceOf, IsShownOn}
+use Rattle.mcv_show.specs.Shown.{IsFaultText, IsShownOn}
 
 -- what refuses a text is a fault of it
 pub refused_input : (text : List ℕ) (fault : ReadFault) → Refuses fault (Faulty text) → IsInputFault text (of_reading fault)
@@ -30,32 +27,6 @@ shown_whole o first bytes certificate verdict text is on =
     let short : length first ≤ size_limit = on.1.1.0 in
     let cut : length (take read_limit bytes) < read_limit = subst (λ (xs : List ℕ). length xs < read_limit) is (omega arith) in
     subst (λ (xs : List ℕ). IsShownOn o xs certificate verdict text) (is ∙ whole read_limit bytes cut) on
-
-place_in : (n : ℕ) (bytes : List ℕ) (place : ℕ × ℕ) → IsPlaceIn (take n bytes) place → IsPlaceIn bytes place
-place_in n bytes place at =
-    let short : at.0 ≤ n = omega (arith, length-take n bytes, at.1) in
-    let low : at.0 ≤ length bytes = omega (arith, length-take n bytes, at.1) in
-    let same : take at.0 (take n bytes) ≡ take at.0 bytes = take-take at.0 n bytes short in (
-      at.0,
-      low,
-      at.2 ∙ ap (λ (xs : List ℕ). 1 + count_by (λ b. b == 10) xs) same,
-      at.3 ∙ ap (λ (xs : List ℕ). column_behind xs 1) same,
-    )
-
-pub place_whole : (first bytes : List ℕ) (place : Option (ℕ × ℕ)) → first ≡ take read_limit bytes → IsPlaceOf first place → IsPlaceOf bytes place
-place_whole first bytes None is at = tt
-place_whole first bytes (Some place) is at = place_in read_limit bytes place (subst (λ (xs : List ℕ). IsPlaceIn xs place) is at)
-
--- the report on a fault names a line of the whole input
-pub fault_whole : (first bytes : List ℕ) (fault : RunFault) (text : List ℕ) → first ≡ take read_limit bytes → IsFaultText first fault text → IsFaultText bytes fault text
-fault_whole first bytes (Config fault) text is said = (said.0, place_whole first bytes said.0 is said.1, said.2)
-fault_whole first bytes (CertificateText fault) text is said = said
-fault_whole first bytes (Certificate fault) text is said = said
-fault_whole first bytes Window text is said = said
-fault_whole first bytes Line text is said = said
-fault_whole first bytes NoRoute text is said = said
-fault_whole first bytes Memory text is said = said
-fault_whole first bytes Device text is said = said
 
 named_whole : (first bytes : List ℕ) (r : RoutesValue) → first ≡ take read_limit bytes → AreNamedBy first r → AreNamedBy bytes r
 named_whole first bytes r is named = named_by_all bytes r (subst (λ (xs : List ℕ). AreNamedBy xs r) is named)

@@ -9,10 +9,13 @@ use Rattle.mcv_certify.specs.PickedReasons.{IsPickedOf}
 use Rattle.mcv_explain.specs.Compared.{compared}
 use Rattle.mcv_explain.specs.Explanation.{explanation}
 use Rattle.mcv_explain.specs.Scene.{SceneValue}
-use Rattle.mcv_faults.specs.TextPlace.{IsPlaceIn, IsSaidAt}
+use Rattle.mcv_faults.specs.FaultLine.{fault_line}
+use Rattle.mcv_faults.specs.TextPlace.{IsPlaceAt, IsSaidAt}
 use Rattle.mcv_input.specs.Fault.{AreNamedBy}
 use Rattle.mcv_input.specs.declared.fault.RunFault.{RunFault}
 use Rattle.mcv_input.specs.declared.fault.RunFault.TheVariants as faults
+use Rattle.mcv_names.specs.Fault.{fault_path}
+use Rattle.mcv_names.specs.declared.fault.ConfigFault.{ConfigFault}
 use Rattle.mcv_places.specs.Document.{IsDocument}
 use Rattle.mcv_report.specs.CertificateReport.{covered_report}
 use Rattle.mcv_report.specs.FaultReport.{config_fault_report, pair_fault_report, refused_report, text_fault_report, window_fault_report}
@@ -97,19 +100,9 @@ IsVerdictAs o input certificate verdict text = IsVerdictIf (is_plain o) o input 
 
 -- ---- faults
 
--- where the line and the column are known, they are those of a byte of the input
-abbrev pub IsPlaceOf : (input : List ℕ) → Option (ℕ × ℕ) → Type 0
-IsPlaceOf input None = Unit {0}
-IsPlaceOf input (Some place) = IsPlaceIn input place
-
--- the text at fault, where one is said, stands there
-abbrev pub IsSaidOf : (input : List ℕ) → Option (ℕ × ℕ) → (said : Option (List ℕ)) → Type 0
-IsSaidOf input None said = said ≡ None
-IsSaidOf input (Some place) said = IsSaidAt input place said
-
--- the text reports a fault of the configuration or of the certificate; of another fault there is no report
+-- the text reports a fault of the configuration, which is the input, or of the certificate; of another fault there is no report
 abbrev pub IsFaultText : (input : List ℕ) → RunFault → (text : List ℕ) → Type 0
-IsFaultText input (faults.Config fault) text = (place : Option (ℕ × ℕ)) × IsPlaceOf input place × IsJsonOf text (refused_report (config_fault_report fault place))
+IsFaultText input (faults.Config fault) text = (place : Option (ℕ × ℕ)) × IsPlaceAt input (fault_path fault) place × IsJsonOf text (refused_report (config_fault_report fault place))
 IsFaultText input (faults.CertificateText fault) text = IsJsonOf text (refused_report (text_fault_report fault))
 IsFaultText input (faults.Certificate fault) text = IsJsonOf text (refused_report (pair_fault_report fault))
 IsFaultText input faults.Window text = IsJsonOf text (refused_report window_fault_report)
@@ -117,3 +110,8 @@ IsFaultText input faults.Line text = text ≡ []
 IsFaultText input faults.NoRoute text = text ≡ []
 IsFaultText input faults.Memory text = text ≡ []
 IsFaultText input faults.Device text = text ≡ []
+
+-- the line says the name of a fault of the configuration, which is the input, the text at fault, and where that stands
+abbrev pub IsDetailOf : (input : List ℕ) → ConfigFault → (line : List ℕ) → Type 0
+IsDetailOf input fault line =
+    (said : Option (List ℕ)) × (place : Option (ℕ × ℕ)) × IsSaidAt input (fault_path fault) said × IsPlaceAt input (fault_path fault) place × (line ≡ fault_line fault.kind said place)

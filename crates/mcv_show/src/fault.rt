@@ -1,7 +1,9 @@
 //! The report on a fault.
 
 ghost use Rattle.std.specs.Prelude.{IfOk, option_map};
-ghost use Rattle.mcv_show.specs.Shown.{IsFaultText, IsPlaceOf};
+ghost use Rattle.mcv_faults.specs.TextPlace.{IsPlaceAt};
+ghost use Rattle.mcv_names.specs.Fault.{fault_path};
+ghost use Rattle.mcv_show.specs.Shown.{IsFaultText};
 
 use mcv_faults::{TextPlace, standing_of};
 use mcv_input::RunFault;
@@ -47,10 +49,8 @@ fn place_of(
     input: &[u8],
     fault: &ConfigFault,
 ) -> Result<Option<TextPlace>, AllocError>
-    ensures { IfOk result (λ place. IsPlaceOf input.now (option_map (λ p. (p.line, p.column)) place)) }
+    ensures { IfOk result (λ place. IsPlaceAt input.now (fault_path fault.now) (option_map (λ p. (p.line, p.column)) place)) }
 {
-    match standing_of(alloc, input, fault.path().as_bytes())? {
-        Some(standing) => Ok(Some(standing.place)),
-        None => Ok(None),
-    }
+    let standing = standing_of(alloc, input, fault.path().as_bytes())?;
+    Ok(standing.place)
 }

@@ -1,6 +1,6 @@
 //! A verdict in the form that options ask for.
 
-ghost use Rattle.std.specs.Prelude.{◌≡◌, ◌≢◌, ◌++◌, ◌⊎◌, ℕ, List, false, true, length, IfErr, IfOk, IfSome, OnOk, option_map};
+ghost use Rattle.std.specs.Prelude.{◌≡◌, ◌≢◌, ◌++◌, ◌⊎◌, ℕ, List, false, true, length, IfErr, IfOk, IfSome, OnOk, option_map, take};
 ghost use Rattle.std.specs.Io.KnownBytes.{Appends};
 ghost use Rattle.serde_json.specs.View.{view};
 ghost use Rattle.mcv_cert.specs.Text.{certificate_text};
@@ -52,7 +52,7 @@ pub fn run_check_as<R: Read, W: Write>(
         IfSome (R.remaining reader.old) (λ input. IsRunFault input options.window.seconds (option_map (λ given. given.now) certificate.entry) fault)) }
     ensures silent { options.json ≡ false → IfErr result (λ fault. fault ≢ RunFault.Device → W.contents writer.new ≡ W.contents writer.old) }
     ensures reported { options.json ≡ true → IfErr result (λ fault. fault ≢ RunFault.Memory → fault ≢ RunFault.Device → (text : List ℕ)
-        × IfSome (R.remaining reader.old) (λ input. IsFaultText input fault text) × Appends (W.contents writer.old) (W.contents writer.new) text) }
+        × IfSome (R.remaining reader.old) (λ input. IsFaultText (take 16777217 input) fault text) × Appends (W.contents writer.old) (W.contents writer.new) text) }
 {
     if is_plain(options) {
         return run_check(alloc, reader, writer, certificate, options.window.seconds);
@@ -82,7 +82,7 @@ fn run_shown<R: Read, W: Write>(
         IfSome (R.remaining reader.old) (λ input. IsRunFault input options.window.seconds (option_map (λ given. given.now) certificate.entry) fault)) }
     ensures silent { options.json ≡ false → IfErr result (λ fault. fault ≢ RunFault.Device → W.contents writer.new ≡ W.contents writer.old) }
     ensures reported { options.json ≡ true → IfErr result (λ fault. fault ≢ RunFault.Memory → fault ≢ RunFault.Device → (text : List ℕ)
-        × IfSome (R.remaining reader.old) (λ input. IsFaultText input fault text) × Appends (W.contents writer.old) (W.contents writer.new) text) }
+        × IfSome (R.remaining reader.old) (λ input. IsFaultText (take 16777217 input) fault text) × Appends (W.contents writer.old) (W.contents writer.new) text) }
 {
     let input = read_text(alloc, reader)?;
     write_shown(alloc, writer, input.as_slice(), certificate, options)

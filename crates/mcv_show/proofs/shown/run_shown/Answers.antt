@@ -4,7 +4,8 @@ use Rattle.std.proofs.lemmas.Result.{IfErr-weaker, IfOk-weaker, err_from_is_err_
 use Rattle.mcv_input.proofs.FirstBytes.{outside_of_any, read_limit}
 use Rattle.mcv_input.specs.Fault.{IsOutside}
 use Rattle.mcv_input.specs.declared.fault.RunFault.{RunFault}
-use Rattle.mcv_show.proofs.WholeInput.{fault_whole, not_outside, run_fault_whole, shown_whole}
+use Rattle.mcv_show.specs.Shown.{IsFaultText}
+use Rattle.mcv_show.proofs.WholeInput.{not_outside, run_fault_whole, shown_whole}
 use Rattle.mcv_verdict.specs.Fault.{IsRunFault}
 use Rattle.mcv_show.proofs.shown.run_shown.Goals as goal
 
@@ -49,4 +50,4 @@ returns-clause-reported g c json =
     IfErr-weaker c.write_shown.result _ _
     (λ fault holds no_memory no_device.
     let said = holds no_memory no_device in
-    (said.0, IfSome_then known read (λ bytes is. fault_whole first bytes fault said.0 is said.1), said.2)) (c.write_shown.ensures.reported json)
+    (said.0, IfSome_then known read (λ bytes is. subst (λ (xs : List ℕ). IsFaultText xs fault said.0) is said.1), said.2)) (c.write_shown.ensures.reported json)
