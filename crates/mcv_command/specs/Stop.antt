@@ -1,10 +1,10 @@
 -- How the program ends: its exit status, and what it says on standard error where it stops early (own).
 use Rattle.std.specs.Prelude.{◌≡◌, ℕ, ◌++◌, Result, Ok, Err, codes}
 use Rattle.clap.specs.Words.{Text}
+use Rattle.mcv_faults.specs.FaultLine.{IsDetailOf}
 use Rattle.mcv_input.specs.Fault.{run_fault_status, run_fault_text}
 use Rattle.mcv_input.specs.declared.fault.RunFault.TheVariants as run_faults
 use Rattle.mcv_names.specs.declared.fault.ConfigFault.{ConfigFault}
-use Rattle.mcv_show.specs.Shown.{IsDetailOf}
 use Rattle.mcv_command.specs.declared.stop.Ending.{Ending}
 use Rattle.mcv_command.specs.declared.stop.Ending.TheVariants.{Done, Lost}
 use Rattle.mcv_command.specs.declared.stop.Stop.{Stop}

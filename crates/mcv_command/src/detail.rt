@@ -3,13 +3,13 @@
 ghost use Rattle.std.specs.Prelude.{◌≡◌, Err, IfSome, string_bytes};
 ghost use Rattle.mcv_command.specs.Stop.{IsSecondLine};
 ghost use Rattle.mcv_command.specs.declared.stop.Stop.TheVariants.{Run};
+ghost use Rattle.mcv_faults.specs.FaultLine.{IsDetailOf};
 ghost use Rattle.mcv_input.specs.declared.fault.RunFault.TheVariants.{Config};
-ghost use Rattle.mcv_show.specs.Shown.{IsDetailOf};
 
 use crate::stop::{Ending, Stop};
+use mcv_faults::fault_detail;
 use mcv_input::RunFault;
 use mcv_names::ConfigFault;
-use mcv_show::fault_detail;
 use mcv_words::{Job, read_words};
 use std::alloc::Global;
 

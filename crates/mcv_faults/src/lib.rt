@@ -3,12 +3,14 @@
 //! Where a value stands is read off the text with its comments (mcv_spans).
 #![tactic(auto)]
 
+mod detail;
 mod line;
 mod name;
 mod place;
 mod pointer;
 mod standing;
 
+pub use detail::fault_detail;
 pub use line::fault_line;
 pub use name::fault_name;
 pub use place::TextPlace;

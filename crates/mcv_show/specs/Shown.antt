@@ -9,13 +9,11 @@ use Rattle.mcv_certify.specs.PickedReasons.{IsPickedOf}
 use Rattle.mcv_explain.specs.Compared.{compared}
 use Rattle.mcv_explain.specs.Explanation.{explanation}
 use Rattle.mcv_explain.specs.Scene.{SceneValue}
-use Rattle.mcv_faults.specs.FaultLine.{fault_line}
-use Rattle.mcv_faults.specs.TextPlace.{IsPlaceAt, IsSaidAt}
+use Rattle.mcv_faults.specs.TextPlace.{IsPlaceAt}
 use Rattle.mcv_input.specs.Fault.{AreNamedBy}
 use Rattle.mcv_input.specs.declared.fault.RunFault.{RunFault}
 use Rattle.mcv_input.specs.declared.fault.RunFault.TheVariants as faults
 use Rattle.mcv_names.specs.Fault.{fault_path}
-use Rattle.mcv_names.specs.declared.fault.ConfigFault.{ConfigFault}
 use Rattle.mcv_places.specs.Document.{IsDocument}
 use Rattle.mcv_report.specs.CertificateReport.{covered_report}
 use Rattle.mcv_report.specs.FaultReport.{config_fault_report, pair_fault_report, refused_report, text_fault_report, window_fault_report}
@@ -110,8 +108,3 @@ IsFaultText input faults.Line text = text ≡ []
 IsFaultText input faults.NoRoute text = text ≡ []
 IsFaultText input faults.Memory text = text ≡ []
 IsFaultText input faults.Device text = text ≡ []
-
--- the line says the name of a fault of the configuration, which is the input, the text at fault, and where that stands
-abbrev pub IsDetailOf : (input : List ℕ) → ConfigFault → (line : List ℕ) → Type 0
-IsDetailOf input fault line =
-    (said : Option (List ℕ)) × (place : Option (ℕ × ℕ)) × IsSaidAt input (fault_path fault) said × IsPlaceAt input (fault_path fault) place × (line ≡ fault_line fault.kind said place)

@@ -1,16 +1,13 @@
 //! A configuration in, the verdict on it out, in the form that options ask for: explained, as JSON, or drawn.
 //!
 //! `run_check_as` writes the verdict (specs/Shown.antt), `run_draw` the picture of the routes with what the verdict marks.
-//! `fault_detail` is the second line of a fault of the configuration.
 #![tactic(auto)]
 
-mod detail;
 mod drawing;
 mod fault;
 mod input;
 mod marks;
 mod shown;
 
-pub use detail::fault_detail;
 pub use drawing::run_draw;
 pub use shown::run_check_as;

@@ -1,10 +1,10 @@
 //! The names, the pointers and the places of faults.
 
-use crate::built::check_text;
 use mcv_faults::{fault_line, fault_pointer, standing_of};
 use mcv_names::FaultKind;
 use std::alloc::Global;
 use std::process::Abort;
+use std::str::from_utf8;
 use std::test::Fail;
 
 /// Comments and a line feed before what is at fault.
@@ -23,6 +23,12 @@ const POINTERS: &str = "\
 /pools/a%2Fb/servers/0 => /pools/a~1b/servers/0
 /pools/a~b => /pools/a~0b
 /route/children/1 => /route/children/1";
+
+/// A text is the one that is wanted.
+fn check_text(rt: &impl Abort, found: &[u8], wanted: &str) {
+    let shown = from_utf8(found).unwrap_or("no text");
+    assert!(rt; found == wanted.as_bytes(), "{wanted}\n{shown}");
+}
 
 fn check_place(rt: &impl Abort, alloc: Global, path: &str, wanted: &str) -> Result<(), Fail> {
     let standing = standing_of(alloc, CONFIG.as_bytes(), path.as_bytes())?;

@@ -1,15 +1,15 @@
 //! The second line of a fault of the configuration.
 
 ghost use Rattle.std.specs.Prelude.{◌≡◌, IfOk, option_map, string_bytes};
-ghost use Rattle.mcv_faults.specs.FaultLine.{fault_line};
-ghost use Rattle.mcv_show.specs.Shown.{IsDetailOf};
+ghost use Rattle.mcv_faults.specs.FaultLine.{IsDetailOf, fault_line};
 
-use mcv_faults::{Standing, fault_line, standing_of};
+use crate::line::fault_line;
+use crate::standing::{Standing, standing_of};
 use mcv_names::{ConfigFault, FaultKind};
 use std::alloc::{AllocError, Global};
 
-/// What is said of a fault of a configuration behind its number and its path: its name, the text at fault, and where it
-/// stands in the input.
+/// What is said of a fault of a configuration, which is the input, behind its number and its path: its name, the text at
+/// fault, and where it stands.
 pub fn fault_detail(alloc: Global, input: &[u8], fault: &ConfigFault) -> Result<Vec<u8>, AllocError>
     ensures { IfOk result (λ line. IsDetailOf input.now fault.now line.items) }
 {

@@ -2,7 +2,7 @@ use Rattle.std.proofs.Common.{◌∙◌, List, ℕ, Option, ap, option_map}
 use Rattle.std.proofs.lemmas.Result.{IfOk-weaker}
 use Rattle.mcv_faults.specs.FaultLine.{fault_line}
 use Rattle.mcv_faults.specs.declared.place.TextPlace.{TextPlace}
-use Rattle.mcv_show.proofs.detail.standing_line.Goals as goal
+use Rattle.mcv_faults.proofs.detail.standing_line.Goals as goal
 
 pub returns : goal.returns
 returns c =

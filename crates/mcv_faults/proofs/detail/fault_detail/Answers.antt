@@ -2,7 +2,7 @@ use Rattle.std.proofs.Common.{option_map}
 use Rattle.std.specs.Prelude.{string_bytes}
 use Rattle.std.proofs.lemmas.Result.{IfOk-weaker}
 use Rattle.mcv_faults.specs.declared.place.TextPlace.{TextPlace}
-use Rattle.mcv_show.proofs.detail.fault_detail.Goals as goal
+use Rattle.mcv_faults.proofs.detail.fault_detail.Goals as goal
 
 pub returns : goal.returns
 returns c =
