@@ -142,7 +142,7 @@ fn judge<R: AllocGlobal + Print + Files>(
     let mut rest = input;
     let files = SystemFiles { system: rt };
     let ended = run_words(alloc, words, &files, orders, &mut rest, &mut io::writer(rt));
-    let more = second_line(alloc, words, input, &ended);
+    let more = second_line(alloc, input, &ended).unwrap_or(None);
     End { ended, more }
 }
 

@@ -1,6 +1,6 @@
 -- What the program did, by what the words asked for.
-use Rattle.std.proofs.Common.{◌≡◌, ◌≢◌, ◌∙◌, ap, inl, inr, ◌+◌, ◌<◌, ◌≤◌, ℕ, Bool, true, false, List, length, take, Option, None, Some, refl, subst, sym, arith}
-use Rattle.std.specs.Prelude.{IfErr, IfSome, MatchOption, Ok, Err, Result}
+use Rattle.std.proofs.Common.{◌≡◌, ◌≢◌, ◌∙◌, ap, inl, inr, ◌+◌, ◌<◌, ◌≤◌, ℕ, List, length, take, Option, None, Some, subst, sym, arith}
+use Rattle.std.specs.Prelude.{IfSome, MatchOption}
 use Rattle.std.proofs.lemmas.List.{length-take}
 use Rattle.std.proofs.lemmas.Option.{IfSome_then}
 use Rattle.clap.specs.Words.{Text}
@@ -16,33 +16,20 @@ use Rattle.mcv_verdict.specs.declared.verdict.Verdict.TheVariants.{Covered, Lost
 use Rattle.mcv_command.specs.declared.stop.Stop.{Stop}
 use Rattle.mcv_command.specs.declared.stop.Stop.TheVariants.{BadLine, Run}
 use Rattle.mcv_command.specs.Program.{Held, IfGiven, IsJudgingFault, IsStop}
-use Rattle.mcv_show.specs.Shown.{IsShownOn, IsVerdictAs, IsVerdictIf, is_plain}
-use Rattle.mcv_words.specs.Words.{AsksCheck, AsksDraw, AsksRun, RunOrder}
-use Rattle.mcv_words.specs.declared.options.CheckOptions.{CheckOptions}
+use Rattle.mcv_words.specs.Words.{AsksCheck, AsksRun, RunOrder}
+use Rattle.mcv_words.specs.declared.options.Window as asked
 
 -- ---- the faults of a verdict, as the program's
 
-pub judging_stop : (words : List Text) (held : Held) (input : Option Text) (cert : Option Text) (options : CheckOptions) (stop : Stop) → AsksCheck words cert options
-    → IsJudgingFault held cert options.window.seconds input stop → IsStop words held input stop
-judging_stop words held input cert options BadLine asks holds = absurd holds
-judging_stop words held input cert options (Run fault) asks holds = inr (inr (inl (cert, options, asks, holds)))
-
-pub drawing_stop : (words : List Text) (held : Held) (input : Option Text) (dot : Bool) (stop : Stop) → AsksDraw words dot → IsJudgingFault held None 0 input stop
-    → IsStop words held input stop
-drawing_stop words held input dot BadLine asks holds = absurd holds
-drawing_stop words held input dot (Run fault) asks holds = inr (inr (inr (inl (dot, asks, holds))))
+pub judging_stop : (words : List Text) (held : Held) (input : Option Text) (cert : Option Text) (window : asked.Window) (stop : Stop) → AsksCheck words cert window
+    → IsJudgingFault held cert window.seconds input stop → IsStop words held input stop
+judging_stop words held input cert window BadLine asks holds = absurd holds
+judging_stop words held input cert window (Run fault) asks holds = inr (inr (inl (cert, window, asks, holds)))
 
 pub running_stop : (words : List Text) (held : Held) (input : Option Text) (order : RunOrder) (stop : Stop) → AsksRun words order
     → IsJudgingFault held None order.settings.window.seconds input stop → IsStop words held input stop
 running_stop words held input order BadLine asks holds = absurd holds
-running_stop words held input order (Run fault) asks holds = inr (inr (inr (inr (order, asks, holds))))
-
--- a call that writes nothing on a fault where no report is asked for writes nothing where the words ask for none
-pub silent_unless_json : {T : Type 0} (json : Bool) (r : Result T Stop) (Same : Type 0) {NoDevice : Stop → Type 0} {Unasked : Stop → Type 0} {Report : Type 0} → (json ≡ true → Report)
-    → (json ≡ false → IfErr r (λ stop. NoDevice stop → Same)) → IfErr r (λ stop. NoDevice stop → Unasked stop → ¬ Report → Same)
-silent_unless_json json (Ok x) Same asks silent = tt
-silent_unless_json true (Err stop) Same asks silent = λ no_device unasked unreported. absurd (unreported (asks refl))
-silent_unless_json false (Err stop) Same asks silent = λ no_device unasked unreported. silent refl no_device
+running_stop words held input order (Run fault) asks holds = inr (inr (inr (order, asks, holds)))
 
 -- a fault that is outside is out of memory or a device's
 pub outside_stop : (stop : Stop) (fault : RunFault) → stop ≡ Run fault → IsOutside fault → stop ≢ Run Device → stop ≢ Run Memory → ⊥
@@ -70,22 +57,6 @@ pub verdict_by_all : (input : List ℕ) (window : ℕ) (text first : List ℕ) (
     → IsVerdictOn input window (Some first) verdict written → IsVerdictOn input window (Some text) verdict written
 verdict_by_all input window text first (Covered n) written is on = (on.0, on.1, (on.2.0, says_all text first _ is on.2.1, on.2.2, on.2.3, on.2.4))
 verdict_by_all input window text first Lost written is on = absurd on.2
-
-shown_by_all : (o : CheckOptions) (input text first : List ℕ) (verdict : Verdict) (written : List ℕ) → first ≡ take read_limit text → IsShownOn o input (Some first) verdict written
-    → IsShownOn o input (Some text) verdict written
-shown_by_all o input text first (Covered n) written is on =
-    let shown = on.4.2 in
-    (on.0, on.1, on.2, on.3, (on.4.0, on.4.1, (shown.0, shown.1, says_all text first _ is shown.2, shown.3, shown.4)))
-shown_by_all o input text first Lost written is on = absurd on.4.2
-
--- the same as the options ask
-pub verdict_as_by_all : (o : CheckOptions) (input text first : List ℕ) (verdict : Verdict) (written : List ℕ) → first ≡ take read_limit text
-    → IsVerdictAs o input (Some first) verdict written → IsVerdictAs o input (Some text) verdict written
-verdict_as_by_all o input text first verdict written is on = go (is_plain o) on
-  where
-    go : (plain : Bool) → IsVerdictIf plain o input (Some first) verdict written → IsVerdictIf plain o input (Some text) verdict written
-    go true here = verdict_by_all input o.window.seconds text first verdict written is here
-    go false here = shown_by_all o input text first verdict written is here
 
 pub fault_by_all : (input : List ℕ) (window : ℕ) (text first : List ℕ) (fault : RunFault) → first ≡ take read_limit text → check.IsRunFault input window (Some first) fault
     → check.IsRunFault input window (Some text) fault

@@ -1,5 +1,5 @@
 -- What the program does for the words of a command line.
-use Rattle.std.specs.Prelude.{◌≡◌, ◌⊎◌, ℕ, Bool, true, List, Option, Some, None, IfSome, MatchOption, codes}
+use Rattle.std.specs.Prelude.{◌≡◌, ◌⊎◌, ℕ, List, Option, Some, None, IfSome, MatchOption, codes}
 use Rattle.std.specs.Io.KnownBytes.{Appends}
 use Rattle.clap.specs.Words.{IsAmong, Text}
 use Rattle.clap.specs.declared.error.kind.ErrorKind.TheVariants.{DisplayHelp, DisplayVersion}
@@ -13,10 +13,8 @@ use Rattle.mcv_verdict.specs.Fault as check
 use Rattle.mcv_verdict.specs.Verdict.{IsVerdictOn}
 use Rattle.mcv_verdict.specs.declared.verdict.Verdict.{Verdict}
 use Rattle.mcv_verdict.specs.declared.verdict.Verdict.TheVariants as verdicts
-use Rattle.mcv_words.specs.Words.{AsksCheck, AsksDraw, AsksRun, IsJobOf, IsLineFault, RunOrder, faults}
-use Rattle.mcv_show.specs.Drawing.{IsDrawnOn}
-use Rattle.mcv_show.specs.Shown.{IsVerdictAs}
-use Rattle.mcv_words.specs.declared.options.CheckOptions.{CheckOptions}
+use Rattle.mcv_words.specs.Words.{AsksCheck, AsksRun, IsJobOf, IsLineFault, RunOrder, faults}
+use Rattle.mcv_words.specs.declared.options.Window.{Window}
 use Rattle.mcv_words.specs.declared.words.Job.TheVariants as jobs
 use Rattle.mcv_words.specs.declared.words.LineFault.TheVariants as line_fault
 use Rattle.mcv_command.specs.declared.stop.Ending.{Ending}
@@ -43,17 +41,6 @@ IsJudged held cert window input old new ending =
     (verdict : Verdict) × (text : Text) × IfSome input (λ bytes. IfGiven held cert (λ certificate. IsVerdictOn bytes window certificate verdict text))
     × Appends old new text × (ending ≡ ending_of verdict)
 
--- the same, as the options ask
-abbrev pub IsJudgedAs : CheckOptions → Held → Option Text → (input old new : Option Text) → Ending → Type 0
-IsJudgedAs options held cert input old new ending =
-    (verdict : Verdict) × (text : Text) × IfSome input (λ bytes. IfGiven held cert (λ certificate. IsVerdictAs options bytes certificate verdict text))
-    × Appends old new text × (ending ≡ ending_of verdict)
-
--- the routes of the input were drawn, whatever the verdict on them
-abbrev pub IsDrawn : (dot : Bool) → (input old new : Option Text) → Ending → Type 0
-IsDrawn dot input old new ending =
-    (verdict : Verdict) × (text : Text) × IfSome input (λ bytes. IsDrawnOn dot bytes verdict text) × Appends old new text × (ending ≡ Done)
-
 -- memory ran out, or a device failed; or the fault is in the input or in the certificate that is given
 abbrev pub IsJudgingFault : Held → Option Text → (window : ℕ) → (input : Option Text) → Stop → Type 0
 IsJudgingFault held cert window input BadLine = ⊥
@@ -74,10 +61,6 @@ IsServed held serves order input old new ending =
 abbrev pub AsksAnyRun : List Text → Type 0
 AsksAnyRun words = (order : RunOrder) × AsksRun words order
 
--- the words ask for a verdict as a report, which a fault of the configuration has too
-abbrev pub AsksReport : List Text → Type 0
-AsksReport words = (cert : Option Text) × (options : CheckOptions) × AsksCheck words cert options × (options.json ≡ true)
-
 abbrev pub version_line : Text
 version_line = codes "mcv 1\n"
 
@@ -86,23 +69,21 @@ abbrev pub IsShownFor : List Text → Text → Type 0
 IsShownFor words text = IsAmong DisplayHelp (faults words) ⊎ (IsAmong DisplayVersion (faults words) × (text ≡ version_line))
 
 -- help or the version was asked for and shown; or the words ask for legs at a moment, and what answers the input at that moment was written; or they
--- ask for a verdict, and it was written as they ask; or they ask for a picture, and it was written; or they ask for a run, and the proxy served as they ask, or the verdict was written by which
+-- ask for a verdict, and it was written; or they ask for a run, and the proxy served as they ask, or the verdict was written by which
 -- it doesn't
 abbrev pub IsDone : List Text → Held → Serves → (input old new : Option Text) → Ending → Type 0
 IsDone words held serves input old new ending =
     ((text : Text) × IsShownFor words text × Appends old new text × (ending ≡ Done))
     ⊎ (((at : Moment) × IsJobOf words (jobs.Legs at) × (text : Text) × IfSome input (λ bytes. IsAnswer at.0 bytes text) × Appends old new text × (ending ≡ Done))
-    ⊎ (((cert : Option Text) × (options : CheckOptions) × AsksCheck words cert options × IsJudgedAs options held cert input old new ending)
-    ⊎ (((dot : Bool) × AsksDraw words dot × IsDrawn dot input old new ending)
-    ⊎ ((order : RunOrder) × AsksRun words order × IsServed held serves order input old new ending))))
+    ⊎ (((cert : Option Text) × (window : Window) × AsksCheck words cert window × IsJudged held cert window.seconds input old new ending)
+    ⊎ ((order : RunOrder) × AsksRun words order × IsServed held serves order input old new ending)))
 
--- the words are at fault; or memory ran out, or a device failed; or the words ask for legs, for a verdict, for a picture or for a run, and the fault is in
+-- the words are at fault; or memory ran out, or a device failed; or the words ask for legs, for a verdict or for a run, and the fault is in
 -- what was read
 abbrev pub IsStop : List Text → Held → (input : Option Text) → Stop → Type 0
 IsStop words held input BadLine = IsLineFault words line_fault.BadLine
 IsStop words held input (Run fault) =
     IsOutside fault
     ⊎ (((at : Moment) × IsJobOf words (jobs.Legs at) × IfSome input (λ bytes. legs.IsRunFault bytes fault))
-    ⊎ (((cert : Option Text) × (options : CheckOptions) × AsksCheck words cert options × IsJudgingFault held cert options.window.seconds input (Run fault))
-    ⊎ (((dot : Bool) × AsksDraw words dot × IsJudgingFault held None 0 input (Run fault))
-    ⊎ ((order : RunOrder) × AsksRun words order × IsJudgingFault held None order.settings.window.seconds input (Run fault)))))
+    ⊎ (((cert : Option Text) × (window : Window) × AsksCheck words cert window × IsJudgingFault held cert window.seconds input (Run fault))
+    ⊎ ((order : RunOrder) × AsksRun words order × IsJudgingFault held None order.settings.window.seconds input (Run fault))))

@@ -1,7 +1,7 @@
 //! The program, over any reader and writer in place of standard input and output, any files and any proxy.
 
-ghost use Rattle.std.specs.Prelude.{◌≡◌, ◌≢◌, None, Some, false, IfErr, IfOk, map};
-ghost use Rattle.mcv_command.specs.Program.{AsksAnyRun, AsksReport, Held, IsDone, IsDrawn, IsJudgedAs, IsJudgingFault, IsServed, IsStop, ending_of};
+ghost use Rattle.std.specs.Prelude.{◌≡◌, ◌≢◌, None, Some, IfErr, IfOk, map};
+ghost use Rattle.mcv_command.specs.Program.{AsksAnyRun, Held, IsDone, IsJudged, IsJudgingFault, IsServed, IsStop, ending_of};
 ghost use Rattle.mcv_command.specs.declared.stop.Stop.TheVariants.{Run};
 ghost use Rattle.mcv_input.specs.declared.fault.RunFault.TheVariants.{Device, Memory};
 ghost use Rattle.mcv_words.specs.Words.{order_of};
@@ -11,9 +11,8 @@ use crate::proxy::Proxy;
 use crate::stop::{Ending, Stop};
 use mcv_input::{RunFault, write_text};
 use mcv_legs::run_legs;
-use mcv_show::{run_check_as, run_draw};
-use mcv_verdict::{Judgement, Verdict, judge_input};
-use mcv_words::{CheckOptions, Job, LineFault, RunOptions, read_words};
+use mcv_verdict::{Judgement, Verdict, judge_input, run_check};
+use mcv_words::{Job, LineFault, RunOptions, Window, read_words};
 use std::alloc::Global;
 use std::io::{Read, Write};
 use std::sync::Arc;
@@ -31,52 +30,37 @@ fn ending_of(verdict: Verdict) -> Ending
     }
 }
 
-/// Judges a configuration by a certificate that is made here, as the options say.
+/// Judges a configuration within the window by a certificate that is made here.
 fn judge<R: Read, W: Write>(
     alloc: Global,
-    options: CheckOptions,
+    window: Window,
     reader: &mut R,
     writer: &mut W,
 ) -> Result<Ending, Stop>
-    ensures done { (held : Held) → IfOk result (IsJudgedAs options held None (R.remaining reader.old) (W.contents writer.old) (W.contents writer.new)) }
-    ensures stop { (held : Held) → IfErr result (IsJudgingFault held None options.window.seconds (R.remaining reader.old)) }
-    ensures silent { options.json ≡ false → IfErr result (λ stop. stop ≢ Run Device → W.contents writer.new ≡ W.contents writer.old) }
+    ensures done { (held : Held) → IfOk result (IsJudged held None window.seconds (R.remaining reader.old) (W.contents writer.old) (W.contents writer.new)) }
+    ensures stop { (held : Held) → IfErr result (IsJudgingFault held None window.seconds (R.remaining reader.old)) }
+    ensures silent { IfErr result (λ stop. stop ≢ Run Device → W.contents writer.new ≡ W.contents writer.old) }
 {
-    let verdict = run_check_as(alloc, reader, writer, None, options)?;
+    let verdict = run_check(alloc, reader, writer, None, window.seconds)?;
     Ok(ending_of(verdict))
 }
 
-/// Judges a configuration by the certificate in the file of this name, which is read first, as the options say.
+/// Judges a configuration within the window by the certificate in the file of this name, which is read first.
 fn judge_by<R: Read, W: Write, F: NamedFiles>(
     alloc: Global,
     name: &str,
+    window: Window,
     files: &F,
-    options: CheckOptions,
     reader: &mut R,
     writer: &mut W,
 ) -> Result<Ending, Stop>
-    ensures done { IfOk result (IsJudgedAs options (F.held files.now) (Some name.now) (R.remaining reader.old) (W.contents writer.old) (W.contents writer.new)) }
-    ensures stop { IfErr result (IsJudgingFault (F.held files.now) (Some name.now) options.window.seconds (R.remaining reader.old)) }
-    ensures silent { options.json ≡ false → IfErr result (λ stop. stop ≢ Run Device → W.contents writer.new ≡ W.contents writer.old) }
-{
-    let text = files.read_named(alloc, name, CERTIFICATE_LIMIT)?;
-    let verdict = run_check_as(alloc, reader, writer, Some(text.as_slice()), options)?;
-    Ok(ending_of(verdict))
-}
-
-/// Draws the routes of a configuration.
-fn draw<R: Read, W: Write>(
-    alloc: Global,
-    dot: bool,
-    reader: &mut R,
-    writer: &mut W,
-) -> Result<Ending, Stop>
-    ensures done { IfOk result (IsDrawn dot (R.remaining reader.old) (W.contents writer.old) (W.contents writer.new)) }
-    ensures stop { (held : Held) → IfErr result (IsJudgingFault held None 0 (R.remaining reader.old)) }
+    ensures done { IfOk result (IsJudged (F.held files.now) (Some name.now) window.seconds (R.remaining reader.old) (W.contents writer.old) (W.contents writer.new)) }
+    ensures stop { IfErr result (IsJudgingFault (F.held files.now) (Some name.now) window.seconds (R.remaining reader.old)) }
     ensures silent { IfErr result (λ stop. stop ≢ Run Device → W.contents writer.new ≡ W.contents writer.old) }
 {
-    let _verdict = run_draw(alloc, reader, writer, dot)?;
-    Ok(Ending::Done)
+    let text = files.read_named(alloc, name, CERTIFICATE_LIMIT)?;
+    let verdict = run_check(alloc, reader, writer, Some(text.as_slice()), window.seconds)?;
+    Ok(ending_of(verdict))
 }
 
 /// Judges a configuration, and has it served where it is covered; else the verdict is written.
@@ -109,7 +93,7 @@ fn serve<R: Read, W: Write, P: Proxy>(
 }
 
 /// Does what the words of a command line ask for, of which the first is the program's name: help,
-/// legs, verdicts and pictures are written to the writer, and so is what the proxy says of itself.
+/// legs and verdicts are written to the writer, and so is what the proxy says of itself.
 pub fn run_words<'a, R: Read, W: Write, F: NamedFiles, P: Proxy>(
     alloc: Global,
     words: &'a [&'a str],
@@ -122,26 +106,20 @@ pub fn run_words<'a, R: Read, W: Write, F: NamedFiles, P: Proxy>(
         (W.contents writer.old) (W.contents writer.new)) }
     ensures stop { IfErr result (IsStop (map (λ w. w.now) words.entry.now) (F.held files.now) (R.remaining reader.old)) }
     ensures silent { IfErr result (λ stop. stop ≢ Run Device → (stop ≡ Run Memory → ¬ AsksAnyRun (map (λ w. w.now) words.entry.now))
-        → ¬ AsksReport (map (λ w. w.now) words.entry.now) → W.contents writer.new ≡ W.contents writer.old) }
+        → W.contents writer.new ≡ W.contents writer.old) }
 {
     match read_words(alloc, words) {
         Ok(Job::Legs { at }) => {
             run_legs(alloc, reader, writer, at)?;
             Ok(Ending::Done)
         }
-        Ok(
-            Job::Check {
-                cert: None,
-                options,
-            },
-        ) => judge(alloc, options, reader, writer),
+        Ok(Job::Check { cert: None, window }) => judge(alloc, window, reader, writer),
         Ok(
             Job::Check {
                 cert: Some(name),
-                options,
+                window,
             },
-        ) => judge_by(alloc, name, files, options, reader, writer),
-        Ok(Job::Draw { dot }) => draw(alloc, dot, reader, writer),
+        ) => judge_by(alloc, name, window, files, reader, writer),
         Ok(Job::Run(options)) => serve(alloc, proxy, options, reader, writer),
         Err(LineFault::Help(text)) => {
             write_text(writer, text.as_bytes())?;

@@ -6,7 +6,7 @@ use crate::devices::is_written;
 use mcv_check::Accepted;
 use mcv_command::{Ending, NamedFiles, Proxy, Stop, run_words};
 use mcv_input::{RunFault, read_at_most};
-use mcv_words::{CheckOptions, Job, LineFault, RunOptions, read_words};
+use mcv_words::{Job, LineFault, RunOptions, read_words};
 use std::alloc::Global;
 use std::io::Write;
 use std::process::Abort;
@@ -35,15 +35,6 @@ mcv check --cert=: check 0 by
 mcv check --cert: bad line
 mcv check --cert a --cert b: bad line
 mcv check a.cert: bad line
-mcv check --explain: check 0, explained
-mcv check --json -q --window 60: check 60, as JSON, quietly
-mcv check --explain --cert a.cert: check 0 by a.cert, explained
-mcv check --json --json: bad line
-mcv check --explain=yes: bad line
-mcv draw: draw
-mcv draw --dot: draw for Graphviz
-mcv draw --dot -q: draw for Graphviz
-mcv draw --svg: bad line
 mcv check --at 1: bad line
 mcv legs --cert a: bad line
 mcv run --listen h:1 --spool f: run h:1 f - 1 0 - -
@@ -136,37 +127,17 @@ fn order_text(rt: &(impl AllocGlobal + Abort), options: RunOptions<'_>) -> Strin
 fn job_text(rt: &(impl AllocGlobal + Abort), job: Job<'_>) -> String {
     let text = match job {
         Job::Legs { at } => format!(in rt.alloc(); "legs at {}", at.0),
-        Job::Check {
-            cert: None,
-            options,
-        } => {
-            let window = options.window.seconds;
-            format!(in rt.alloc(); "check {window}{}", options_text(options))
-        }
+        Job::Check { cert: None, window } => format!(in rt.alloc(); "check {}", window.seconds),
         Job::Check {
             cert: Some(name),
-            options,
-        } => {
-            let window = options.window.seconds;
-            format!(in rt.alloc(); "check {window} by {name}{}", options_text(options))
-        }
-        Job::Draw { dot: true } => format!(in rt.alloc(); "draw for Graphviz"),
-        Job::Draw { dot: false } => format!(in rt.alloc(); "draw"),
+            window,
+        } => format!(in rt.alloc(); "check {} by {name}", window.seconds),
         Job::Run(options) => {
             let order = order_text(rt, options);
             format!(in rt.alloc(); "run {order}")
         }
     };
     text.expect(rt, "memory")
-}
-
-fn options_text(options: CheckOptions) -> &'static str {
-    match (options.explain, options.json, options.quiet) {
-        (false, false, false) => "",
-        (true, false, false) => ", explained",
-        (false, true, true) => ", as JSON, quietly",
-        _ => ", otherwise",
-    }
 }
 
 fn fault_text(fault: &LineFault) -> &'static str {
@@ -303,7 +274,6 @@ const MAIN_PARTS: &[&str] = &[
     "Usage: mcv <COMMAND>",
     "mcrouter",
     "  check  ",
-    "  draw  ",
     "  legs  ",
     "  run  ",
     "\n  mcv check < mcrouter.json\n",
@@ -313,10 +283,7 @@ const MAIN_PARTS: &[&str] = &[
 ];
 
 const CHECK_PARTS: &[&str] = &[
-    "Usage: mcv check [--cert FILE] [--window SECONDS] [--explain] [--json]\n                 [-q] < FILE",
-    "--explain",
-    "--json",
-    "-q, --quiet",
+    "Usage: mcv check [--cert FILE] [--window SECONDS] < FILE",
     "--cert <FILE>",
     "--window <SECONDS>",
     "from 0 to 4294967295 [default: 0]",
@@ -341,17 +308,10 @@ const LEGS_PARTS: &[&str] = &[
     "mcv: configuration NUMBER at PATH",
 ];
 
-const DRAW_PARTS: &[&str] = &[
-    "Usage: mcv draw [--dot] [-q] < FILE",
-    "--dot",
-    "\n  mcv draw < mcrouter.json > mcrouter.svg\n",
-];
-
 #[test]
 fn help_names_input_and_exit_statuses(rt: HostRuntime) {
     check_parts(&rt, &["mcv", "--help"], MAIN_PARTS);
     check_parts(&rt, &["mcv", "check", "--help"], CHECK_PARTS);
-    check_parts(&rt, &["mcv", "draw", "--help"], DRAW_PARTS);
     check_parts(&rt, &["mcv", "legs", "--help"], LEGS_PARTS);
 }
 
@@ -392,7 +352,6 @@ fn help_names_each_handle_within_eighty_columns(rt: HostRuntime) {
     }
     check_columns(&rt, &["mcv", "legs", "--help"]);
     check_columns(&rt, &["mcv", "check", "--help"]);
-    check_columns(&rt, &["mcv", "draw", "--help"]);
 }
 
 const POOL: &str = "{\"pools\":{\"A\":{\"servers\":[\"a:11211\"]}},\"route\":\"PoolRoute|A\"}";

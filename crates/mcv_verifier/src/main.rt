@@ -1,5 +1,5 @@
-//! The program `mcv` without its proxy, for who only judges configurations: `legs`, `check` and `draw` as in the whole
-//! program. `run` is a bad command line here.
+//! The program `mcv` without its proxy, for who only judges configurations: `legs` and `check` as in the whole program.
+//! `run` is a bad command line here.
 #![tactic(auto)]
 
 use mcv_check::Accepted;
@@ -99,6 +99,6 @@ fn judge<R: AllocGlobal + Print + Files>(rt: &R, words: &[&str], input: &[u8]) -
         &mut rest,
         &mut io::writer(rt),
     );
-    let more = second_line(alloc, words, input, &ended);
+    let more = second_line(alloc, input, &ended).unwrap_or(None);
     End { ended, more }
 }

@@ -1,7 +1,7 @@
 -- What clap makes of short command lines.
 use Rattle.std.proofs.Common.{◌≡◌, [], ◌∷◌, ◌++◌, List, Option, Some, None, refl, codes, option_map}
 use Rattle.clap.specs.Words.{Row, Text, first_of, one_of}
-use Rattle.clap.specs.declared.error.kind.ErrorKind.TheVariants.{ArgumentConflict, DisplayHelp, DisplayVersion, InvalidSubcommand, MissingRequiredArgument, MissingSubcommand, TooManyValues, UnknownArgument, ValueValidation}
+use Rattle.clap.specs.declared.error.kind.ErrorKind.TheVariants.{ArgumentConflict, DisplayHelp, DisplayVersion, InvalidSubcommand, MissingRequiredArgument, MissingSubcommand, UnknownArgument, ValueValidation}
 use Rattle.clap.proofs.OnLiterals.{clap_on_literals}
 use Rattle.mcv_words.specs.Words.{faults, named}
 
@@ -181,33 +181,3 @@ no_server_timeout = refl
 too_long_a_client_timeout : faults (run_line ++ codes "--client-timeout" ∷ codes "3600001" ∷ []) ≡ ValueValidation ∷ []
 unfolding clap_on_literals
 too_long_a_client_timeout = refl
-
--- ---- flags
-
-abbrev flag_of : Text → Option (Text × List Row) → Option (Option Text)
-flag_of flag = option_map (λ p. one_of flag p.1)
-
-explain_named : flag_of (codes "explain") (named (codes "mcv" ∷ codes "check" ∷ codes "--explain" ∷ [])) ≡ Some (Some (codes "true"))
-unfolding clap_on_literals
-explain_named = refl
-
-explain_absent : flag_of (codes "explain") (named (codes "mcv" ∷ codes "check" ∷ codes "--json" ∷ [])) ≡ Some (Some (codes "false"))
-unfolding clap_on_literals
-explain_absent = refl
-
-quiet_named : flag_of (codes "quiet") (named (codes "mcv" ∷ codes "check" ∷ codes "-q" ∷ [])) ≡ Some (Some (codes "true"))
-unfolding clap_on_literals
-quiet_named = refl
-
-draw : faults (codes "mcv" ∷ codes "draw" ∷ []) ≡ []
-unfolding clap_on_literals
-draw = refl
-
-dot_named : flag_of (codes "dot") (named (codes "mcv" ∷ codes "draw" ∷ codes "--dot" ∷ [])) ≡ Some (Some (codes "true"))
-unfolding clap_on_literals
-dot_named = refl
-
--- a flag takes no value
-flag_with_a_value : faults (codes "mcv" ∷ codes "draw" ∷ codes "--dot=x" ∷ []) ≡ TooManyValues ∷ []
-unfolding clap_on_literals
-flag_with_a_value = refl

@@ -1,11 +1,10 @@
 -- The values that words with which clap finds no fault give the options of `check`, `legs` and `run`: each row has one that the parser of its
 -- option takes, an option with a default has a row, and so has one that is wanted. clap's rules are followed from word to word; nothing
 -- of the code is in it.
-use Rattle.std.proofs.Common.{◌≡◌, ◌∙◌, ◌⊎◌, inl, inr, ℕ, zero, suc, Bool, cond, not, ◌&&◌, ◌||◌, ◌==◌, arith, true, false, List, [], ◌∷◌, ◌++◌, drop, length, Option, Some, None, ap, codes, fold, is_some, refl, subst, sym, true≢false}
+use Rattle.std.proofs.Common.{◌≡◌, ◌∙◌, ◌⊎◌, inl, inr, ℕ, zero, suc, Bool, cond, not, ◌&&◌, ◌||◌, true, false, List, [], ◌∷◌, ◌++◌, drop, length, Option, Some, None, ap, codes, fold, is_some, refl, subst, sym, true≢false}
 use Rattle.std.specs.Option.{option_map_or}
 use Rattle.std.specs.Str.{bytes_eq, chars}
 use Rattle.std.specs.Prelude.{IfSome, ⊤, slice_get, encode_utf8, find}
-use Rattle.std.proofs.lemmas.Bool.{ne_eqb}
 use Rattle.std.proofs.lemmas.Slice.Eq.{bytes_eq-Decides}
 use Rattle.clap.specs.Words.{Kinds, Row, Rule, Shape, Text, built, first_of, one_of}
 use Rattle.clap.specs.Facts.{parser_of_value}
@@ -17,14 +16,14 @@ use Rattle.clap.specs.Simple.{built_leaf, entered, filled, help_rule, inherited,
 use Rattle.clap.specs.Walk.{Held, Outcome, Step, Waiting, Walk, done, waits, plain, refused, idle, option, positional, next, trailing, subcommand, value}
 use Rattle.clap.specs.Walk.{after_flag, after_step, arg_by_id, arg_by_index, arg_by_long, arg_by_short, at_row, attached_value, bundle, bundle_met, bundle_step, finished, flag_met, has_row, is_pending, long_met, long_or_other, more_values, nothing_held, option_met, option_word, plain_word, positional_held, reacted, settled, settled_rows, short_met, short_or_plain, takes_several, takes_values, to_positional, used, used_by_id, walk, walk_from, walked, walked_from, with_default, with_values, without, word_met, rows_after}
 use Rattle.clap.specs.Faults.{bundle_fault, bundle_step_fault, check_fault, defaults_fault, entered_fault, flag_word_fault, flags_fault, level_fault, long_fault, option_fault, positional_fault, react_fault, repeat_fault, set_fault, settle_fault, short_fault, step_fault, turn_fault, use_fault, values_fault, walk_fault, word_fault}
-use Rattle.clap.specs.declared.error.kind.ErrorKind.TheVariants.{DisplayHelp, InvalidValue, MissingRequiredArgument, TooManyValues, ValueValidation, WrongNumberOfValues}
+use Rattle.clap.specs.declared.error.kind.ErrorKind.TheVariants.{DisplayHelp, InvalidValue, MissingRequiredArgument, TooManyValues, ValueValidation}
 use Rattle.clap.specs.declared.builder.value_parser.ValueParser.{ValueParser}
 use Rattle.clap.specs.declared.builder.value_parser.ValueParser.TheVariants as parsers
 use Rattle.clap.specs.declared.builder.value_parser.Reading.TheVariants.{AsWritten}
 use Rattle.clap.specs.declared.parser.matches.ValueSource.{ValueSource}
 use Rattle.clap.specs.declared.parser.matches.ValueSource.TheVariants.{CommandLine, DefaultValue}
 use Rattle.mcv_words.specs.Ranges.{proxy_limit, session_limit, timeout_limit, window_limit}
-use Rattle.mcv_words.specs.Words.{at_rule, cert_rule, check_app, client_timeout_rule, faults, flag_rule, legs_app, listen_rule, mcv_app, named, proxies_rule, quiet_rule, run_app, server_timeout_rule, sessions_rule, spool_rule, window_rule}
+use Rattle.mcv_words.specs.Words.{at_rule, cert_rule, check_app, client_timeout_rule, faults, legs_app, listen_rule, mcv_app, named, proxies_rule, run_app, server_timeout_rule, sessions_rule, spool_rule, window_rule}
 use Rattle.mcv_words.proofs.CommandIsNamed.{StopsAtCommand, none_below, none_of, some_kind, stop_of, stops_at_command}
 
 -- ---- rows
@@ -428,23 +427,6 @@ check_window_tame (v ∷ vs) rows none good =
     let taken = none_of (range_kinds 1 1 (suc (length vs))) (set_fault false (with_index 1 (filled window_rule)) (v ∷ vs) rows) none in
     written check.rules (codes "window") v vs rows (value_passes (repeat_fault false (codes "window") rows) [] (values_fault (with_index 1 (filled window_rule)) vs) _ taken.1) good
 
-no_value_for_flag : (n : ℕ) → range_kinds 0 0 (suc n) ≡ [] → ⊥
-no_value_for_flag n none =
-    let apart : (0 == suc n) ≡ false = ne_eqb 0 (suc n) (λ same. omega arith) in
-    some_kind WrongNumberOfValues [] (rw apart at none)
-
-explain_tame : IsTame check (with_index 1 (filled (flag_rule (codes "explain"))))
-explain_tame [] rows none good = written check.rules (codes "explain") (codes "true") [] rows refl good
-explain_tame (v ∷ vs) rows none good = absurd (no_value_for_flag (length vs) (none_of (range_kinds 0 0 (suc (length vs))) (set_fault false (with_index 1 (filled (flag_rule (codes "explain")))) (v ∷ vs) rows) none).0)
-
-json_tame : IsTame check (with_index 1 (filled (flag_rule (codes "json"))))
-json_tame [] rows none good = written check.rules (codes "json") (codes "true") [] rows refl good
-json_tame (v ∷ vs) rows none good = absurd (no_value_for_flag (length vs) (none_of (range_kinds 0 0 (suc (length vs))) (set_fault false (with_index 1 (filled (flag_rule (codes "json")))) (v ∷ vs) rows) none).0)
-
-quiet_tame : IsTame check (with_index 1 (filled quiet_rule))
-quiet_tame [] rows none good = written check.rules (codes "quiet") (codes "true") [] rows refl good
-quiet_tame (v ∷ vs) rows none good = absurd (no_value_for_flag (length vs) (none_of (range_kinds 0 0 (suc (length vs))) (set_fault false (with_index 1 (filled quiet_rule)) (v ∷ vs) rows) none).0)
-
 check_help : IsTame check (with_index 1 (filled help_rule))
 check_help values rows none good = absurd (no_help values rows none)
 
@@ -453,22 +435,14 @@ HasWindow = HasNumber (codes "window") 0 window_limit
 
 check_given : (words : List Text) → level_fault check [] nothing_held words false [] ≡ [] → HasWindow (rows_after check.rules [] words)
 check_given words none =
-    let tame : AreTame check check.rules = (cert_tame, (check_window_tame, (explain_tame, (json_tame, (quiet_tame, (check_help, tt)))))) in
+    let tame : AreTame check check.rules = (cert_tame, (check_window_tame, (check_help, tt))) in
     let start : List Row = (settled check.rules (walk check.rules [] nothing_held words).held).rows in
     let given : List Row = with_default start (with_index 1 (filled cert_rule)) in
-    let windowed : List Row = with_default given (with_index 1 (filled window_rule)) in
-    let explained : List Row = with_default windowed (with_index 1 (filled (flag_rule (codes "explain")))) in
-    let reported : List Row = with_default explained (with_index 1 (filled (flag_rule (codes "json")))) in
-    let after : List Row = with_default reported (with_index 1 (filled quiet_rule)) in
+    let after : List Row = with_default given (with_index 1 (filled window_rule)) in
     let same : given ≡ start = unchanged (has_row (codes "cert") start) start in
     let good = subst (λ (rows : List Row). AreGood check.rules rows) (sym same) (leaf_good check tame words none).0 in
-    let first = defaulted check.rules (codes "window") (codes "0") given refl refl good in
-    let second = defaulted check.rules (codes "explain") (codes "false") windowed refl refl first.0 in
-    let third = defaulted check.rules (codes "json") (codes "false") explained refl refl second.0 in
-    let last = defaulted check.rules (codes "quiet") (codes "false") reported refl refl third.0 in
-    let has = kept (codes "window") (codes "quiet") (codes "false") reported
-    (kept (codes "window") (codes "json") (codes "false") explained (kept (codes "window") (codes "explain") (codes "false") windowed first.1)) in
-    let found = found_value check.rules (codes "window") after has last.0 in
+    let last = defaulted check.rules (codes "window") (codes "0") given refl refl good in
+    let found = found_value check.rules (codes "window") after last.1 last.0 in
     subst HasWindow (sym (unchanged (has_row (codes "help") after) after)) (found.0, found.2, found.3)
 
 -- ---- `run`
@@ -590,18 +564,16 @@ at_legs : (stop : Option (Text × List Text)) (rows : List Row) → StopsAtComma
     → entered_fault (built mcv_app) stop ≡ [] → HasAt rows
 at_legs None rows stops at none = absurd (cc)
 at_legs (Some p) rows (inl other) at none = absurd (name_apart (codes "check") (codes "legs") _ rows refl refl (at_name (codes "legs") (codes "check") p rows other at))
-at_legs (Some p) rows (inr (inl other)) at none = absurd (name_apart (codes "draw") (codes "legs") _ rows refl refl (at_name (codes "legs") (codes "draw") p rows other at))
-at_legs (Some p) rows (inr (inr (inr other))) at none = absurd (name_apart (codes "run") (codes "legs") _ rows refl refl (at_name (codes "legs") (codes "run") p rows other at))
-at_legs (Some p) rows (inr (inr (inl is))) at none =
+at_legs (Some p) rows (inr (inr other)) at none = absurd (name_apart (codes "run") (codes "legs") _ rows refl refl (at_name (codes "legs") (codes "run") p rows other at))
+at_legs (Some p) rows (inr (inl is)) at none =
     let same : rows_after legs.rules [] p.1 ≡ rows = rows_there (codes "legs") (rows_after legs.rules [] p.1) rows (at_name (codes "legs") (codes "legs") p rows is at) in
     subst HasAt same (legs_given p.1 (no_fault_at (codes "legs") p is none))
 
 at_check : (stop : Option (Text × List Text)) (rows : List Row) → StopsAtCommand stop → entered (built mcv_app) stop ≡ Some (codes "check", rows)
     → entered_fault (built mcv_app) stop ≡ [] → HasWindow rows
 at_check None rows stops at none = absurd (cc)
-at_check (Some p) rows (inr (inl other)) at none = absurd (name_apart (codes "draw") (codes "check") _ rows refl refl (at_name (codes "check") (codes "draw") p rows other at))
-at_check (Some p) rows (inr (inr (inl other))) at none = absurd (name_apart (codes "legs") (codes "check") _ rows refl refl (at_name (codes "check") (codes "legs") p rows other at))
-at_check (Some p) rows (inr (inr (inr other))) at none = absurd (name_apart (codes "run") (codes "check") _ rows refl refl (at_name (codes "check") (codes "run") p rows other at))
+at_check (Some p) rows (inr (inl other)) at none = absurd (name_apart (codes "legs") (codes "check") _ rows refl refl (at_name (codes "check") (codes "legs") p rows other at))
+at_check (Some p) rows (inr (inr other)) at none = absurd (name_apart (codes "run") (codes "check") _ rows refl refl (at_name (codes "check") (codes "run") p rows other at))
 at_check (Some p) rows (inl is) at none =
     let same : rows_after check.rules [] p.1 ≡ rows = rows_there (codes "check") (rows_after check.rules [] p.1) rows (at_name (codes "check") (codes "check") p rows is at) in
     subst HasWindow same (check_given p.1 (no_fault_at (codes "check") p is none))
@@ -610,9 +582,8 @@ at_run : (stop : Option (Text × List Text)) (rows : List Row) → StopsAtComman
     → entered_fault (built mcv_app) stop ≡ [] → HasAll rows
 at_run None rows stops at none = absurd (cc)
 at_run (Some p) rows (inl other) at none = absurd (name_apart (codes "check") (codes "run") _ rows refl refl (at_name (codes "run") (codes "check") p rows other at))
-at_run (Some p) rows (inr (inl other)) at none = absurd (name_apart (codes "draw") (codes "run") _ rows refl refl (at_name (codes "run") (codes "draw") p rows other at))
-at_run (Some p) rows (inr (inr (inl other))) at none = absurd (name_apart (codes "legs") (codes "run") _ rows refl refl (at_name (codes "run") (codes "legs") p rows other at))
-at_run (Some p) rows (inr (inr (inr is))) at none =
+at_run (Some p) rows (inr (inl other)) at none = absurd (name_apart (codes "legs") (codes "run") _ rows refl refl (at_name (codes "run") (codes "legs") p rows other at))
+at_run (Some p) rows (inr (inr is)) at none =
     let same : rows_after run.rules [] p.1 ≡ rows = rows_there (codes "run") (rows_after run.rules [] p.1) rows (at_name (codes "run") (codes "run") p rows is at) in
     subst HasAll same (run_given p.1 (no_fault_at (codes "run") p is none))
 

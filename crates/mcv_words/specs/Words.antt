@@ -1,22 +1,21 @@
 -- What the words of a command line ask for. The words are those of the shell, the program's name
 -- first; how they are read is clap's: `fault_of` lists the kinds of fault that it finds with words,
 -- and `subcommand_of` the subcommand that they name.
-use Rattle.std.specs.Prelude.{◌≡◌, ◌≢◌, ◌<◌, ◌≤◌, ◌^◌, ◌⊎◌, ⊤, ℕ, Bool, true, false, List, [], ◌∷◌, Option, None, Some, IsSome, codes, fold, option_map}
+use Rattle.std.specs.Prelude.{◌≡◌, ◌≢◌, ◌<◌, ◌≤◌, ◌^◌, ◌⊎◌, ⊤, ℕ, true, List, [], ◌∷◌, Option, None, Some, IsSome, codes, fold, option_map}
 use Rattle.std.specs.Str.Parse.{IsNumeral, digits_value, without_leading_plus}
 use Rattle.clap.specs.Words.{App, IsAmong, Kinds, Row, Rule, Text, fault_of, first_of, new_app, new_rule, one_of, subcommand_of, with_rule, with_subcommand}
 use Rattle.clap.specs.declared.builder.value_parser.ValueParser.TheVariants as parsers
 use Rattle.clap.specs.declared.error.kind.ErrorKind.{ErrorKind}
 use Rattle.clap.specs.declared.error.kind.ErrorKind.TheVariants.{DisplayHelp, DisplayVersion, OutOfMemory}
-use Rattle.clap.specs.declared.builder.action.ArgAction.TheVariants.{SetTrue}
 use Rattle.mcv_words.specs.Ranges.{proxy_limit, session_limit, timeout_limit, window_limit}
-use Rattle.mcv_words.specs.declared.options.CheckOptions.{CheckOptions}
 use Rattle.mcv_words.specs.declared.options.ClientTimeout.{ClientTimeout}
 use Rattle.mcv_words.specs.declared.options.RunOptions.{RunOptions}
 use Rattle.mcv_words.specs.declared.options.ServerTimeout.{ServerTimeout}
 use Rattle.mcv_words.specs.declared.options.Sessions.{Sessions}
 use Rattle.mcv_words.specs.declared.options.Settings.{Settings}
+use Rattle.mcv_words.specs.declared.options.Window.{Window}
 use Rattle.mcv_words.specs.declared.words.Job.{Job}
-use Rattle.mcv_words.specs.declared.words.Job.TheVariants.{Legs, Check, Draw, Run}
+use Rattle.mcv_words.specs.declared.words.Job.TheVariants.{Legs, Check, Run}
 use Rattle.mcv_words.specs.declared.words.LineFault.{LineFault}
 use Rattle.mcv_words.specs.declared.words.LineFault.TheVariants.{BadLine, Memory, Help, Version}
 
@@ -52,25 +51,9 @@ number_rule name least most = record (option_rule name) { parser = Some (parsers
 abbrev pub window_rule : Rule
 window_rule = record (number_rule (codes "window") 0 window_limit) { defaults = codes "0" ∷ [] }
 
--- a flag, which takes no value
-abbrev pub flag_rule : Text → Rule
-flag_rule name = record (new_rule name) {
-  long = Some name;
-  action = Some SetTrue;
-}
-
--- `-q`, `--quiet`
-abbrev pub quiet_rule : Rule
-quiet_rule = record (flag_rule (codes "quiet")) { short = Some 113 }
-
--- `check [--cert FILE] [--window SECONDS] [--explain] [--json] [-q]`
+-- `check [--cert FILE] [--window SECONDS]`
 abbrev pub check_app : App
-check_app =
-    with_rule (with_rule (with_rule (with_rule (with_rule (new_app (codes "check")) cert_rule) window_rule) (flag_rule (codes "explain"))) (flag_rule (codes "json"))) quiet_rule
-
--- `draw [--dot] [-q]`
-abbrev pub draw_app : App
-draw_app = with_rule (with_rule (new_app (codes "draw")) (flag_rule (codes "dot"))) quiet_rule
+check_app = with_rule (with_rule (new_app (codes "check")) cert_rule) window_rule
 
 -- `--listen ADDRESS`, `--spool FILE`: wanted
 abbrev pub listen_rule : Rule
@@ -110,9 +93,9 @@ with_version app = record app { top = record app.top { has_version = true } }
 abbrev pub wanting_a_command : App → App
 wanting_a_command app = record app { top = record app.top { subcommand_required = true } }
 
--- `mcv check`, `mcv draw`, `mcv legs` and `mcv run` with their options; `mcv --version`
+-- `mcv check`, `mcv legs` and `mcv run` with their options; `mcv --version`
 abbrev pub mcv_app : App
-mcv_app = with_subcommand (with_subcommand (with_subcommand (with_subcommand (wanting_a_command (with_version (new_app (codes "mcv")))) check_app.top) draw_app.top) legs_app.top) run_app.top
+mcv_app = with_subcommand (with_subcommand (with_subcommand (wanting_a_command (with_version (new_app (codes "mcv")))) check_app.top) legs_app.top) run_app.top
 
 -- ---- what words ask for
 
@@ -129,23 +112,13 @@ abbrev pub IsNumberOf : (option : Text) → List Row → ℕ → Type 0
 IsNumberOf option rows n = (text : Text) × (one_of option rows ≡ Some text) × IsNumeral 10 (without_leading_plus text)
     × (n ≡ digits_value 10 (without_leading_plus text))
 
--- whether a flag is given: clap reads it as `true`, and as `false` where it isn't
-abbrev pub IsFlag : (flag : Text) → List Row → Bool → Type 0
-IsFlag flag rows b =
-    (one_of flag rows ≡ Some (codes "true") → b ≡ true) × (one_of flag rows ≡ Some (codes "false") → b ≡ false) × (one_of flag rows ≡ None → b ≡ false)
-
--- the value of `--cert`, or none, that of `--window`, and whether `--explain`, `--json` and `-q` are given
-abbrev pub HasCheckValues : List Row → (cert : Option Text) → CheckOptions → Type 0
-HasCheckValues rows cert options = (cert ≡ first_of (codes "cert") rows) × IsNumberOf (codes "window") rows options.window.seconds
-    × IsFlag (codes "explain") rows options.explain × IsFlag (codes "json") rows options.json × IsFlag (codes "quiet") rows options.quiet
+-- the value of `--cert`, or none, and that of `--window`
+abbrev pub HasCheckValues : List Row → (cert : Option Text) → Window → Type 0
+HasCheckValues rows cert window = (cert ≡ first_of (codes "cert") rows) × IsNumberOf (codes "window") rows window.seconds
 
 -- clap takes the words, and they name the command `check` with these values
-abbrev pub AsksCheck : List Text → (cert : Option Text) → CheckOptions → Type 0
-AsksCheck words cert options = (faults words ≡ []) × (rows : List Row) × (named words ≡ Some (codes "check", rows)) × HasCheckValues rows cert options
-
--- clap takes the words, and they name the command `draw`, with `--dot` or without
-abbrev pub AsksDraw : List Text → Bool → Type 0
-AsksDraw words dot = (faults words ≡ []) × (rows : List Row) × (named words ≡ Some (codes "draw", rows)) × IsFlag (codes "dot") rows dot
+abbrev pub AsksCheck : List Text → (cert : Option Text) → Window → Type 0
+AsksCheck words cert window = (faults words ≡ []) × (rows : List Row) × (named words ≡ Some (codes "check", rows)) × HasCheckValues rows cert window
 
 -- the value of an option that may be left out: none, or a number
 abbrev pub IsNumberIfGiven : (option : Text) → List Row → Option ℕ → Type 0
@@ -182,22 +155,13 @@ AsksRun words order = (faults words ≡ []) × (rows : List Row) × (named words
 -- the job of `check` with these values
 abbrev pub IsCheckOf : List Row → Job → Type 0
 IsCheckOf rows (Legs at) = ⊥
-IsCheckOf rows (Check cert options) = HasCheckValues rows (option_map (λ name. name.now) cert) options
-IsCheckOf rows (Draw dot) = ⊥
+IsCheckOf rows (Check cert window) = HasCheckValues rows (option_map (λ name. name.now) cert) window
 IsCheckOf rows (Run options) = ⊥
-
--- the job of `draw` with these values
-abbrev pub IsDrawOf : List Row → Job → Type 0
-IsDrawOf rows (Legs at) = ⊥
-IsDrawOf rows (Check cert options) = ⊥
-IsDrawOf rows (Draw dot) = IsFlag (codes "dot") rows dot
-IsDrawOf rows (Run options) = ⊥
 
 -- the job of `run` with these values
 abbrev pub IsRunOf : List Row → Job → Type 0
 IsRunOf rows (Legs at) = ⊥
-IsRunOf rows (Check cert options) = ⊥
-IsRunOf rows (Draw dot) = ⊥
+IsRunOf rows (Check cert window) = ⊥
 IsRunOf rows (Run options) = HasRunValues rows (order_of options)
 
 -- the option is given a number of this range
@@ -220,8 +184,7 @@ pub record CanRun (rows : List Row) : Type 0 where
 
 -- clap takes the words, and they name the job's command with the values that the job has
 abbrev pub IsJobOf : List Text → Job → Type 0
-IsJobOf words (Check cert options) = AsksCheck words (option_map (λ name. name.now) cert) options
-IsJobOf words (Draw dot) = AsksDraw words dot
+IsJobOf words (Check cert window) = AsksCheck words (option_map (λ name. name.now) cert) window
 IsJobOf words (Legs at) = (faults words ≡ []) × (rows : List Row) × (named words ≡ Some (codes "legs", rows)) × IsNumberOf (codes "at") rows at.0
 IsJobOf words (Run options) = AsksRun words (order_of options)
 

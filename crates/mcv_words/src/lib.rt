@@ -7,7 +7,6 @@ mod options;
 mod words;
 
 pub use options::{
-    CheckOptions, ClientTimeout, InRange, Proxies, RunOptions, ServerTimeout, Sessions, Settings,
-    Window,
+    ClientTimeout, InRange, Proxies, RunOptions, ServerTimeout, Sessions, Settings, Window,
 };
 pub use words::{Job, LineFault, read_words};

@@ -127,18 +127,6 @@ impl InRange for ClientTimeout {
     }
 }
 
-/// Within which window a configuration is judged, and how the verdict is to be shown.
-#[derive(Clone, Copy, Debug, PartialEq, Eq)]
-pub struct CheckOptions {
-    pub window: Window,
-    /// With an explanation behind it.
-    pub explain: bool,
-    /// As a report in JSON in place of its text.
-    pub json: bool,
-    /// Without the second line that says more of a fault.
-    pub quiet: bool,
-}
-
 /// The numbers of `run`'s options.
 #[derive(Clone, Copy, Debug, PartialEq, Eq)]
 pub struct Settings {

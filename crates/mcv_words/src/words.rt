@@ -5,21 +5,19 @@ ghost use Rattle.std.specs.Prelude.{◌≡◌, codes, false, option_map, IfOk, I
 ghost use Rattle.clap.specs.Words.{Text, app_of, found_of, kind_of, rows_of, rule_of};
 ghost use Rattle.clap.specs.declared.builder.command.Command.TheViews.{out-Command as fields_of};
 ghost use Rattle.mcv_words.specs.Ranges.{window_limit};
-ghost use Rattle.mcv_words.specs.Words.{at_rule, cert_rule, check_app, client_timeout_rule, draw_app, flag_rule, legs_app, listen_rule, mcv_app, proxies_rule, quiet_rule, run_app, server_timeout_rule, sessions_rule, spool_rule, window_rule, line_fault_number, CanRun, IsCheckOf, IsDrawOf, IsFaultOfKind, IsGivenIn, IsJobOf, IsLineFault, IsNumberIfGiven, IsRunOf, MayBeGivenIn};
+ghost use Rattle.mcv_words.specs.Words.{at_rule, cert_rule, check_app, client_timeout_rule, legs_app, listen_rule, mcv_app, proxies_rule, run_app, server_timeout_rule, sessions_rule, spool_rule, window_rule, line_fault_number, CanRun, IsCheckOf, IsFaultOfKind, IsGivenIn, IsJobOf, IsLineFault, IsNumberIfGiven, IsRunOf, MayBeGivenIn};
 ghost use Rattle.mcv_words.specs.declared.words.LineFault.TheVariants.{Memory as out_of_memory};
 
 use crate::help::{
-    ABOUT, AT, CERT, CHECK_ABOUT, CHECK_FORM, CLIENT_TIMEOUT, DOT, DRAW_ABOUT, DRAW_FORM, EXAMPLE,
-    EXPLAIN, JSON, LEGS_ABOUT, LEGS_FORM, LISTEN, PROXIES, QUIET, RUN_ABOUT, RUN_FORM,
-    SERVER_TIMEOUT, SESSIONS, SPOOL, WINDOW,
+    ABOUT, AT, CERT, CHECK_ABOUT, CHECK_FORM, CLIENT_TIMEOUT, EXAMPLE, LEGS_ABOUT, LEGS_FORM,
+    LISTEN, PROXIES, RUN_ABOUT, RUN_FORM, SERVER_TIMEOUT, SESSIONS, SPOOL, WINDOW,
 };
 use crate::options::{
-    CheckOptions, ClientTimeout, InRange, Proxies, RunOptions, ServerTimeout, Sessions, Settings,
-    Window,
+    ClientTimeout, InRange, Proxies, RunOptions, ServerTimeout, Sessions, Settings, Window,
 };
 use clap::builder::ValueParser;
 use clap::error::ErrorKind;
-use clap::{Arg, ArgAction, ArgMatches, Command, Error as ClapError, value_parser};
+use clap::{Arg, ArgMatches, Command, Error as ClapError, value_parser};
 use mcv_base::Moment;
 use std::alloc::{AllocError, Global};
 use thiserror::Error;
@@ -31,14 +29,10 @@ pub enum Job<'a> {
     Legs {
         at: Moment,
     },
-    /// To judge a configuration, by the certificate in the file of this name where one is given, as the options say.
+    /// To judge a configuration within this window, by the certificate in the file of this name where one is given.
     Check {
         cert: Option<&'a str>,
-        options: CheckOptions,
-    },
-    /// To draw the routes of a configuration, for Graphviz or as SVG.
-    Draw {
-        dot: bool,
+        window: Window,
     },
     /// To serve clients.
     Run(RunOptions<'a>),
@@ -126,52 +120,16 @@ fn window_option<'a>(alloc: Global) -> Arg<'a>
         .help(WINDOW)
 }
 
-/// A flag by its name.
-fn flag<'a>(alloc: Global, name: &'static str, help: &'static str) -> Arg<'a>
-    ensures rule { rule_of result ≡ flag_rule name.now }
-    ensures local { result.global ≡ false }
-{
-    Arg::new(alloc, name)
-        .long(name)
-        .action(ArgAction::SetTrue)
-        .help(help)
-}
-
-fn quiet_flag<'a>(alloc: Global) -> Arg<'a>
-    ensures rule { rule_of result ≡ quiet_rule }
-    ensures local { result.global ≡ false }
-{
-    flag(alloc, "quiet", QUIET).short('q')
-}
-
 fn check_command<'a>(alloc: Global) -> Result<Command<'a>, AllocError>
     ensures app { IfOk result (λ c. app_of c ≡ check_app) }
     ensures local { IfOk result (λ c. (fields_of c).has_globals ≡ false) }
 {
     Command::new(alloc, "check")
         .about(CHECK_ABOUT)
-        .override_usage(
-            "mcv check [--cert FILE] [--window SECONDS] [--explain] [--json]
-                 [-q] < FILE",
-        )
+        .override_usage("mcv check [--cert FILE] [--window SECONDS] < FILE")
         .after_help(CHECK_FORM)
         .arg(cert_option(alloc))?
-        .arg(window_option(alloc))?
-        .arg(flag(alloc, "explain", EXPLAIN))?
-        .arg(flag(alloc, "json", JSON))?
-        .arg(quiet_flag(alloc))
-}
-
-fn draw_command<'a>(alloc: Global) -> Result<Command<'a>, AllocError>
-    ensures app { IfOk result (λ c. app_of c ≡ draw_app) }
-    ensures local { IfOk result (λ c. (fields_of c).has_globals ≡ false) }
-{
-    Command::new(alloc, "draw")
-        .about(DRAW_ABOUT)
-        .override_usage("mcv draw [--dot] [-q] < FILE")
-        .after_help(DRAW_FORM)
-        .arg(flag(alloc, "dot", DOT))?
-        .arg(quiet_flag(alloc))
+        .arg(window_option(alloc))
 }
 
 fn listen_option<'a>(alloc: Global) -> Arg<'a>
@@ -262,7 +220,6 @@ fn command<'a>(alloc: Global) -> Result<Command<'a>, AllocError>
     ensures { IfOk result (λ c. app_of c ≡ mcv_app) }
 {
     let check = check_command(alloc)?;
-    let draw = draw_command(alloc)?;
     let legs = legs_command(alloc)?;
     let run = run_command(alloc)?;
     Command::new(alloc, "mcv")
@@ -272,7 +229,6 @@ fn command<'a>(alloc: Global) -> Result<Command<'a>, AllocError>
         .subcommand_required(true)
         .bin_name("mcv")?
         .subcommand(check)?
-        .subcommand(draw)?
         .subcommand(legs)?
         .subcommand(run)
 }
@@ -317,26 +273,7 @@ fn check_job<'a>(found: &ArgMatches<'a>) -> Result<Job<'a>, LineFault>
     let Some(window) = number_of::<Window>(found, "window")? else {
         return Err(LineFault::BadLine);
     };
-    let explain = found.get_flag("explain");
-    let json = found.get_flag("json");
-    let quiet = found.get_flag("quiet");
-    Ok(Job::Check {
-        cert,
-        options: CheckOptions {
-            window,
-            explain,
-            json,
-            quiet,
-        },
-    })
-}
-
-/// The job of `draw`, by what clap found for its options.
-fn draw_job<'a>(found: &ArgMatches<'a>) -> Job<'a>
-    ensures { IsDrawOf (rows_of (found_of found.now)) result }
-{
-    let dot = found.get_flag("dot");
-    Job::Draw { dot }
+    Ok(Job::Check { cert, window })
 }
 
 /// The job of `run`, by what clap found for its options.
@@ -387,9 +324,6 @@ pub fn read_words<'a>(alloc: Global, words: &'a [&'a str]) -> Result<Job<'a>, Li
             return Err(LineFault::BadLine);
         };
         return Ok(job);
-    }
-    if let Some(drawing) = matches.subcommand_matches("draw") {
-        return Ok(draw_job(drawing));
     }
     if let Some(found) = matches.subcommand_matches("run") {
         let Ok(job) = run_job(found) else {

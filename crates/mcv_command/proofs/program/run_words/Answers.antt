@@ -4,7 +4,7 @@ use Rattle.clap.specs.Words.{Text}
 use Rattle.mcv_command.specs.Program.{IsStop}
 use Rattle.mcv_command.specs.declared.stop.Stop.{Stop}
 use Rattle.mcv_command.specs.declared.stop.Stop.TheVariants.{Run}
-use Rattle.mcv_command.proofs.ProgramEnds.{drawing_stop, judging_stop, running_stop, silent_unless_json}
+use Rattle.mcv_command.proofs.ProgramEnds.{judging_stop, running_stop}
 use Rattle.mcv_words.specs.Words.{order_of}
 use Rattle.mcv_command.proofs.program.run_words.Goals as goal
 
@@ -21,7 +21,7 @@ returns-in_err-run_legs-in-Ok-Legs-clause-stop g c =
 pub returns-in_err-run_legs-in-Ok-Legs-clause-silent : goal.returns-in_err-run_legs-in-Ok-Legs-clause-silent
 returns-in_err-run_legs-in-Ok-Legs-clause-silent g c =
     let gone = err_from_is_err_and c.from_residual.result c.from_residual.ensures.1 in
-    rw (gone.1) (λ no_device unasked unreported. c.in_err-run_legs-in-Ok-Legs.ensures.silent (λ device. no_device (gone.2 ∙ ap Run device)))
+    rw (gone.1) (λ no_device unasked. c.in_err-run_legs-in-Ok-Legs.ensures.silent (λ device. no_device (gone.2 ∙ ap Run device)))
 
 pub returns-in_err-write_text-in-Err-Help-clause-stop : goal.returns-in_err-write_text-in-Err-Help-clause-stop
 returns-in_err-write_text-in-Err-Help-clause-stop g c =
@@ -46,7 +46,7 @@ pub returns-in-Ok-Check-None-default-clause-done : goal.returns-in-Ok-Check-None
 returns-in-Ok-Check-None-default-clause-done g c =
     let held = g.F.NamedFiles.held c.args.files.now in
     let asks = rw (c.in-Ok-Check-None-default.field-0-is, c.in-Ok-Check-None-default.field-0-0-is) at c.in-Ok-Check-None-default.ensures.job in
-    IfOk-weaker c.judge.result _ _ (λ ending judged. inr (inr (inl (None, c.in-Ok-Check-None-default.options, asks, judged)))) (c.judge.ensures.done held)
+    IfOk-weaker c.judge.result _ _ (λ ending judged. inr (inr (inl (None, c.in-Ok-Check-None-default.window, asks, judged)))) (c.judge.ensures.done held)
 
 pub returns-in-Ok-Check-None-default-clause-stop : goal.returns-in-Ok-Check-None-default-clause-stop
 returns-in-Ok-Check-None-default-clause-stop g c =
@@ -54,40 +54,13 @@ returns-in-Ok-Check-None-default-clause-stop g c =
     let held = g.F.NamedFiles.held c.args.files.now in
     let known = g.R.Read.remaining c.args.reader.now in
     let asks = rw (c.in-Ok-Check-None-default.field-0-is, c.in-Ok-Check-None-default.field-0-0-is) at c.in-Ok-Check-None-default.ensures.job in
-    IfErr-weaker c.judge.result _ _ (λ stop holds. judging_stop words held known None c.in-Ok-Check-None-default.options stop asks holds) (c.judge.ensures.stop held)
-
-pub returns-in-Ok-Check-None-default-clause-silent : goal.returns-in-Ok-Check-None-default-clause-silent
-returns-in-Ok-Check-None-default-clause-silent g c =
-    let asks = rw (c.in-Ok-Check-None-default.field-0-is, c.in-Ok-Check-None-default.field-0-0-is) at c.in-Ok-Check-None-default.ensures.job in
-    silent_unless_json (c.in-Ok-Check-None-default.options.json) c.judge.result _ (λ json. (None, c.in-Ok-Check-None-default.options, asks, json)) c.judge.ensures.silent
-
-pub returns-in-Ok-Check-Some-default-clause-silent : goal.returns-in-Ok-Check-Some-default-clause-silent
-returns-in-Ok-Check-Some-default-clause-silent g c =
-    let asks = rw (c.in-Ok-Check-Some-default.field-0-is, c.in-Ok-Check-Some-default.field-0-0-is) at c.in-Ok-Check-Some-default.ensures.job in
-    silent_unless_json (c.in-Ok-Check-Some-default.options.json) c.judge_by.result _ (λ json. (Some c.in-Ok-Check-Some-default.name.now, c.in-Ok-Check-Some-default.options, asks, json)) c.judge_by.ensures.silent
-
-pub returns-in-Ok-Draw-clause-done : goal.returns-in-Ok-Draw-clause-done
-returns-in-Ok-Draw-clause-done g c =
-    let asks = rw c.in-Ok-Draw.field-0-is at c.in-Ok-Draw.ensures.job in
-    IfOk-weaker c.draw.result _ _ (λ ending drawn. inr (inr (inr (inl (c.in-Ok-Draw.dot, asks, drawn))))) c.draw.ensures.done
-
-pub returns-in-Ok-Draw-clause-stop : goal.returns-in-Ok-Draw-clause-stop
-returns-in-Ok-Draw-clause-stop g c =
-    let words : List Text = map (λ w. w.now) c.args.words.now in
-    let held = g.F.NamedFiles.held c.args.files.now in
-    let known = g.R.Read.remaining c.args.reader.now in
-    let asks = rw c.in-Ok-Draw.field-0-is at c.in-Ok-Draw.ensures.job in
-    IfErr-weaker c.draw.result _ _ (λ stop holds. drawing_stop words held known c.in-Ok-Draw.dot stop asks holds) (c.draw.ensures.stop held)
-
-pub returns-in-Ok-Draw-clause-silent : goal.returns-in-Ok-Draw-clause-silent
-returns-in-Ok-Draw-clause-silent g c =
-    IfErr-weaker c.draw.result _ _ (λ stop silent no_device unasked unreported. silent no_device) c.draw.ensures.silent
+    IfErr-weaker c.judge.result _ _ (λ stop holds. judging_stop words held known None c.in-Ok-Check-None-default.window stop asks holds) (c.judge.ensures.stop held)
 
 pub returns-in-Ok-Run-clause-done : goal.returns-in-Ok-Run-clause-done
 returns-in-Ok-Run-clause-done g c =
     let held = g.F.NamedFiles.held c.args.files.now in
     let asks = rw c.in-Ok-Run.field-0-is at c.in-Ok-Run.ensures.job in
-    IfOk-weaker c.serve.result _ _ (λ ending served. inr (inr (inr (inr (order_of c.in-Ok-Run.options, asks, served))))) (c.serve.ensures.done held)
+    IfOk-weaker c.serve.result _ _ (λ ending served. inr (inr (inr (order_of c.in-Ok-Run.options, asks, served)))) (c.serve.ensures.done held)
 
 pub returns-in-Ok-Run-clause-stop : goal.returns-in-Ok-Run-clause-stop
 returns-in-Ok-Run-clause-stop g c =
@@ -100,14 +73,12 @@ returns-in-Ok-Run-clause-stop g c =
 pub returns-in-Ok-Run-clause-silent : goal.returns-in-Ok-Run-clause-silent
 returns-in-Ok-Run-clause-silent g c =
     let asks = rw c.in-Ok-Run.field-0-is at c.in-Ok-Run.ensures.job in
-    IfErr-weaker c.serve.result _ _
-    (λ stop silent no_device unasked unreported. silent no_device (λ memory. unasked memory (order_of c.in-Ok-Run.options, asks)))
-    c.serve.ensures.silent
+    IfErr-weaker c.serve.result _ _ (λ stop silent no_device unasked. silent no_device (λ memory. unasked memory (order_of c.in-Ok-Run.options, asks))) c.serve.ensures.silent
 
 pub returns-in-Ok-Check-Some-default-clause-done : goal.returns-in-Ok-Check-Some-default-clause-done
 returns-in-Ok-Check-Some-default-clause-done g c =
     let asks = rw (c.in-Ok-Check-Some-default.field-0-is, c.in-Ok-Check-Some-default.field-0-0-is) at c.in-Ok-Check-Some-default.ensures.job in
-    IfOk-weaker c.judge_by.result _ _ (λ ending judged. inr (inr (inl (Some c.in-Ok-Check-Some-default.name.now, c.in-Ok-Check-Some-default.options, asks, judged)))) c.judge_by.ensures.done
+    IfOk-weaker c.judge_by.result _ _ (λ ending judged. inr (inr (inl (Some c.in-Ok-Check-Some-default.name.now, c.in-Ok-Check-Some-default.window, asks, judged)))) c.judge_by.ensures.done
 
 pub returns-in-Ok-Check-Some-default-clause-stop : goal.returns-in-Ok-Check-Some-default-clause-stop
 returns-in-Ok-Check-Some-default-clause-stop g c =
@@ -115,4 +86,4 @@ returns-in-Ok-Check-Some-default-clause-stop g c =
     let held = g.F.NamedFiles.held c.args.files.now in
     let known = g.R.Read.remaining c.args.reader.now in
     let asks = rw (c.in-Ok-Check-Some-default.field-0-is, c.in-Ok-Check-Some-default.field-0-0-is) at c.in-Ok-Check-Some-default.ensures.job in
-    IfErr-weaker c.judge_by.result _ _ (λ stop holds. judging_stop words held known (Some c.in-Ok-Check-Some-default.name.now) c.in-Ok-Check-Some-default.options stop asks holds) c.judge_by.ensures.stop
+    IfErr-weaker c.judge_by.result _ _ (λ stop holds. judging_stop words held known (Some c.in-Ok-Check-Some-default.name.now) c.in-Ok-Check-Some-default.window stop asks holds) c.judge_by.ensures.stop

@@ -1,3 +1,0 @@
-pub mod Scene
-pub mod Explanation
-pub mod Compared

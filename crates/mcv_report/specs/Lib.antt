@@ -1,4 +1,0 @@
-pub mod Json
-pub mod FindingReport
-pub mod CertificateReport
-pub mod FaultReport
