@@ -56,12 +56,23 @@ fn standing_in(
     ensures said { IfOk result (λ s. option_map string_bytes s.text ≡ text_at_fault path.now (view document.now)) }
     ensures place { IfOk result (λ s. IfSome s.place (λ p. StandsIn text.now (at_fault path.now (view document.now)) (p.line, p.column))) }
 {
-    let pointer = fault_pointer(alloc, path)?;
-    let pointer = String::from_utf8_lossy(alloc, pointer.as_slice())?;
-    match document.pointer(pointer.as_str()) {
+    match found_at(alloc, document, path)? {
         Some(value) => standing_at(alloc, text, path, value),
         None => Ok(unknown()),
     }
+}
+
+/// The value at a path of the document.
+fn found_at<'a>(
+    alloc: Global,
+    document: &'a Value,
+    path: &[u8],
+) -> Result<Option<&'a Value>, AllocError>
+    ensures { IfOk result (λ found. option_map (λ v. view v.now) found ≡ at_fault path.now (view document.now)) }
+{
+    let bytes = fault_pointer(alloc, path)?;
+    let pointer = String::from_utf8_lossy(alloc, bytes.as_slice())?;
+    Ok(document.pointer(pointer.as_str()))
 }
 
 /// The same of the value at the path.
@@ -99,16 +110,30 @@ fn place_of(
 ) -> Result<Option<TextPlace>, AllocError>
     ensures { IfOk result (λ place. IfSome place (λ p. StandsAt text.now (p.line, p.column) (view value.now))) }
 {
-    let Some(Span { start, end }) = span_at(alloc, text, path)? else {
-        return Ok(None);
-    };
+    match span_at(alloc, text, path)? {
+        Some(span) => checked_place(alloc, text, span, value),
+        None => Ok(None),
+    }
+}
+
+/// Where a span begins, if the value stands there.
+fn checked_place(
+    alloc: Global,
+    text: &[u8],
+    span: Span,
+    value: &Value,
+) -> Result<Option<TextPlace>, AllocError>
+    ensures { IfOk result (λ place. IfSome place (λ p. StandsAt text.now (p.line, p.column) (view value.now))) }
+{
+    let Span { start, end } = span;
     if start > end || end > text.len() {
         return Ok(None);
     }
-    if !reads_as(alloc, &text[start..end], value)? {
-        return Ok(None);
+    let is_there = reads_as(alloc, &text[start..end], value)?;
+    if is_there {
+        return Ok(Some(place_at(text, start)));
     }
-    Ok(Some(place_at(text, start)))
+    Ok(None)
 }
 
 /// Whether bytes are JSON, and where the value is a text, that text.

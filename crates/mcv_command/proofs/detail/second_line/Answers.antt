@@ -6,8 +6,8 @@ use Rattle.mcv_command.proofs.detail.second_line.Goals as goal
 
 pub returns-in-Some : goal.returns-in-Some
 returns-in-Some c =
-    let detail = c.in_ok-detail_of.ensures in
-    subst (λ (found : Option ConfigFault). IsSecondLine c.args.input.now found (Some (string_bytes c.in_ok-detail_of.field-0))) c.in-Some.ensures (detail.0, detail.1, ap Some detail.2)
+    let detail = c.in_ok-detail_of-in-Some.ensures in
+    subst (λ (found : Option ConfigFault). IsSecondLine c.args.input.now found (Some (string_bytes c.in_ok-detail_of-in-Some.field-0))) c.in-Some.ensures (detail.0, detail.1, ap Some detail.2)
 
 pub returns : goal.returns
 returns c = subst (λ (found : Option ConfigFault). IsSecondLine c.args.input.now found None) c.in-None.ensures refl
