@@ -6,15 +6,15 @@ use Rattle.mcv_faults.specs.FaultLine.{IsDetailOf}
 use Rattle.mcv_input.specs.declared.fault.RunFault.{RunFault}
 use Rattle.mcv_input.specs.declared.fault.RunFault.TheVariants.{Certificate, CertificateText, Config, Device, Line, Memory, NoRoute, Window}
 use Rattle.mcv_names.specs.declared.fault.ConfigFault.{ConfigFault}
-use Rattle.mcv_words.specs.Words.{AsksCheck, AsksRun, RunOrder}
+use Rattle.mcv_words.specs.Words.{AsksCheck, AsksMend, AsksRun, RunOrder}
 use Rattle.mcv_words.specs.declared.options.Window as options
 use Rattle.mcv_command.specs.declared.stop.Ending.{Ending}
 use Rattle.mcv_command.specs.declared.stop.Stop.{Stop}
-use Rattle.mcv_command.specs.declared.stop.Stop.TheVariants.{BadLine, Run}
+use Rattle.mcv_command.specs.declared.stop.Stop.TheVariants.{BadLine, Mended, NoChange, Run}
 
--- the words ask for a verdict or for a run: the input is a configuration
+-- the words ask for a verdict, for the input mended or for a run: the input is a configuration
 abbrev pub AsksOfConfiguration : List Text → Type 0
-AsksOfConfiguration words = ((cert : Option Text) × (window : options.Window) × AsksCheck words cert window) ⊎ ((order : RunOrder) × AsksRun words order)
+AsksOfConfiguration words = ((cert : Option Text) × (window : options.Window) × AsksCheck words cert window) ⊎ (AsksMend words ⊎ ((order : RunOrder) × AsksRun words order))
 
 -- the fault of the configuration, where it is one
 abbrev pub config_fault : RunFault → Option ConfigFault
@@ -31,6 +31,8 @@ config_fault Device = None
 abbrev pub ended_fault : Result Ending Stop → Option ConfigFault
 ended_fault (Ok ending) = None
 ended_fault (Err BadLine) = None
+ended_fault (Err (Mended fault)) = None
+ended_fault (Err NoChange) = None
 ended_fault (Err (Run fault)) = config_fault fault
 
 -- more is said of a fault of the configuration, which is the input, and of nothing else

@@ -18,6 +18,7 @@ pub fn reads_configuration(alloc: Global, words: &[&str]) -> bool
 {
     match read_words(alloc, words) {
         Ok(Job::Check { .. }) => true,
+        Ok(Job::Mend) => true,
         Ok(Job::Run(_)) => true,
         Ok(Job::Legs { .. }) => false,
         Err(_) => false,
@@ -46,6 +47,8 @@ fn fault_of(ended: &Result<Ending, Stop>) -> Option<&ConfigFault>
     match ended {
         Ok(_) => None,
         Err(Stop::BadLine) => None,
+        Err(Stop::Mended(_)) => None,
+        Err(Stop::NoChange) => None,
         Err(Stop::Run(fault)) => config_fault(fault),
     }
 }
