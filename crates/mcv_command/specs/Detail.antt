@@ -1,20 +1,28 @@
 -- The line on standard error behind that of a fault of the configuration (own).
-use Rattle.std.specs.Prelude.{◌≡◌, ◌⊎◌, Err, List, None, Ok, Option, Result, Some}
+use Rattle.std.specs.Prelude.{◌≡◌, Err, List, None, Ok, Option, Result, Some, Bool, false, true}
 use Rattle.std.specs.Str.Lossy.{utf8_lossy}
 use Rattle.clap.specs.Words.{Text}
 use Rattle.mcv_faults.specs.FaultLine.{IsDetailOf}
 use Rattle.mcv_input.specs.declared.fault.RunFault.{RunFault}
 use Rattle.mcv_input.specs.declared.fault.RunFault.TheVariants.{Certificate, CertificateText, Config, Device, Line, Memory, NoRoute, Window}
 use Rattle.mcv_names.specs.declared.fault.ConfigFault.{ConfigFault}
-use Rattle.mcv_words.specs.Words.{AsksCheck, AsksMend, AsksRun, RunOrder}
-use Rattle.mcv_words.specs.declared.options.Window as options
+use Rattle.mcv_words.specs.Words.{IsJobOf}
+use Rattle.mcv_words.specs.declared.words.Job.{Job}
+use Rattle.mcv_words.specs.declared.words.Job.TheVariants as jobs
 use Rattle.mcv_command.specs.declared.stop.Ending.{Ending}
 use Rattle.mcv_command.specs.declared.stop.Stop.{Stop}
 use Rattle.mcv_command.specs.declared.stop.Stop.TheVariants.{BadLine, Mended, NoChange, Run}
 
--- the words ask for a verdict, for the input mended or for a run: the input is a configuration
+-- the job is done on a configuration alone: `legs` has a request before it
+abbrev pub is_of_configuration : Job → Bool
+is_of_configuration (jobs.Legs at) = false
+is_of_configuration (jobs.Check cert window) = true
+is_of_configuration jobs.Mend = true
+is_of_configuration (jobs.Run options) = true
+
+-- the words ask for such a job
 abbrev pub AsksOfConfiguration : List Text → Type 0
-AsksOfConfiguration words = ((cert : Option Text) × (window : options.Window) × AsksCheck words cert window) ⊎ (AsksMend words ⊎ ((order : RunOrder) × AsksRun words order))
+AsksOfConfiguration words = (job : Job) × IsJobOf words job × (is_of_configuration job ≡ true)
 
 -- the fault of the configuration, where it is one
 abbrev pub config_fault : RunFault → Option ConfigFault

@@ -2,7 +2,7 @@
 
 ghost use Rattle.std.specs.Prelude.{◌≡◌, ℕ, List, true, IfOk, map, option_map, string_bytes};
 ghost use Rattle.std.specs.Str.Lossy.{utf8_lossy};
-ghost use Rattle.mcv_command.specs.Detail.{AsksOfConfiguration, IsSecondLine, config_fault, ended_fault};
+ghost use Rattle.mcv_command.specs.Detail.{AsksOfConfiguration, IsSecondLine, config_fault, ended_fault, is_of_configuration};
 ghost use Rattle.mcv_faults.specs.FaultLine.{IsDetailOf};
 
 use crate::stop::{Ending, Stop};
@@ -17,11 +17,20 @@ pub fn reads_configuration(alloc: Global, words: &[&str]) -> bool
     ensures { result ≡ true → AsksOfConfiguration (map (λ w. w.now) words.entry.now) }
 {
     match read_words(alloc, words) {
-        Ok(Job::Check { .. }) => true,
-        Ok(Job::Mend) => true,
-        Ok(Job::Run(_)) => true,
-        Ok(Job::Legs { .. }) => false,
+        Ok(job) => is_of_configuration(&job),
         Err(_) => false,
+    }
+}
+
+/// Whether a job is done on a configuration alone.
+fn is_of_configuration(job: &Job<'_>) -> bool
+    ensures { result ≡ is_of_configuration job.now }
+{
+    match job {
+        Job::Legs { .. } => false,
+        Job::Check { .. } => true,
+        Job::Mend => true,
+        Job::Run(_) => true,
     }
 }
 
