@@ -524,8 +524,7 @@ const WARM_UP_MENDED: &str =
 const DEEPEST: &str =
     "{\"pools\":{\"C\":{\"servers\":[\"a:11211\",\"b:11211\"]}},\"route\":\"AllSyncRoute|AllSyncRoute|AllSyncRoute|AllSyncRoute|AllSyncRoute|AllSyncRoute|AllSyncRoute|AllSyncRoute|AllSyncRoute|AllSyncRoute|AllSyncRoute|AllSyncRoute|AllSyncRoute|AllSyncRoute|AllSyncRoute|AllSyncRoute|AllSyncRoute|AllSyncRoute|AllSyncRoute|AllSyncRoute|AllSyncRoute|AllSyncRoute|AllSyncRoute|AllSyncRoute|AllSyncRoute|AllSyncRoute|AllSyncRoute|AllSyncRoute|AllSyncRoute|FailoverRoute|Pool|C\"}";
 
-const TOO_DEEP: &str =
-    "mcv: mended configuration 7 at /route/operation_policies/delete/children/0";
+const TOO_DEEP: &str = "mcv: mended configuration 7 at /route/operation_policies/delete/children/0";
 
 #[test]
 fn configurations_are_mended(rt: HostRuntime) {
