@@ -4,7 +4,7 @@ use Rattle.mcv_faults.proofs.standing.reads_as.Goals as goal
 
 pub returns-in-Some : goal.returns-in-Some
 returns-in-Some c = λ yes.
-    (view c.in-Some.there, rw c.in-Some.is at c.in_ok-there.ensures, sym c.as_str.ensures ∙ (c.is_same_text.ensures yes ∙ c.as_str-2.ensures))
+    (view c.in-Some.there, rw c.in-Some.is at c.in_ok-there.ensures, sym c.as_str.ensures ∙ (c.is_same_text.ensures yes ∙ c.as_str-in-Some.ensures))
 
-pub returns : goal.returns
-returns c = λ yes. absurd (true≢false (sym yes))
+pub returns-in-None : goal.returns-in-None
+returns-in-None c = λ yes. absurd (true≢false (sym yes))

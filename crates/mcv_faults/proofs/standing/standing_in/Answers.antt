@@ -19,10 +19,10 @@ returns-in-Some-clause-place c =
     let found = at_fault c.args.path.now (view c.args.document.now) in
     IfOk-weaker c.standing_at.result _ _ (λ s place. place_of_found c.args.text.now s.place found (view c.in-Some.value.now) (sym at) place) c.standing_at.ensures.place
 
-pub returns-clause-said : goal.returns-clause-said
-returns-clause-said c =
+pub returns-in-None-clause-said : goal.returns-in-None-clause-said
+returns-in-None-clause-said c =
     let none = rw c.in-None.is at c.in_ok-value.ensures in
     rw c.unknown.ensures (ap (λ (found : Option Data). option_and_then as_str found) none)
 
-pub returns-clause-place : goal.returns-clause-place
-returns-clause-place c = rw c.unknown.ensures tt
+pub returns-in-None-clause-place : goal.returns-in-None-clause-place
+returns-in-None-clause-place c = rw c.unknown.ensures tt

@@ -16,10 +16,10 @@ returns-in-Some-clause-place c =
     let document = rw c.in-Some.is at c.in_ok-document.ensures in
     IfOk-weaker c.standing_in.result _ _ (λ s place. place_in c.args.text.now c.args.path.now s.place (view c.in-Some.document) document place) c.standing_in.ensures.place
 
-pub returns-clause-said : goal.returns-clause-said
-returns-clause-said c =
+pub returns-in-None-clause-said : goal.returns-in-None-clause-said
+returns-in-None-clause-said c =
     let none = rw c.in-None.is at c.in_ok-document.ensures in
     rw c.unknown.ensures (said_of_none c.args.text.now c.args.path.now none)
 
-pub returns-clause-place : goal.returns-clause-place
-returns-clause-place c = rw c.unknown.ensures tt
+pub returns-in-None-clause-place : goal.returns-in-None-clause-place
+returns-in-None-clause-place c = rw c.unknown.ensures tt
