@@ -338,7 +338,7 @@ pub fn read_words<'a>(alloc: Global, words: &'a [&'a str]) -> Result<Job<'a>, Li
         };
         return Ok(job);
     }
-    if matches.subcommand_matches("mend").is_some() {
+    if let Some(_found) = matches.subcommand_matches("mend") {
         return Ok(Job::Mend);
     }
     if let Some(found) = matches.subcommand_matches("run") {
