@@ -4,10 +4,10 @@ use Rattle.mcv_names.specs.declared.fault.ConfigFault.{ConfigFault}
 use Rattle.mcv_command.specs.Detail.{IsSecondLine}
 use Rattle.mcv_command.proofs.detail.second_line.Goals as goal
 
-pub returns : goal.returns
-returns c =
+pub returns-in-Some : goal.returns-in-Some
+returns-in-Some c =
     let detail = c.in_ok-detail_of-in-Some.ensures in
     subst (λ (found : Option ConfigFault). IsSecondLine c.args.input.now found (Some (string_bytes c.in_ok-detail_of-in-Some.field-0))) c.in-Some.ensures (detail.0, detail.1, ap Some detail.2)
 
-pub returns-in-None : goal.returns-in-None
-returns-in-None c = subst (λ (found : Option ConfigFault). IsSecondLine c.args.input.now found None) c.in-None.ensures refl
+pub returns : goal.returns
+returns c = subst (λ (found : Option ConfigFault). IsSecondLine c.args.input.now found None) c.in-None.ensures refl
