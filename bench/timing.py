@@ -84,6 +84,11 @@ def finding(text):
     return running(["check"], text, status=3)
 
 
+def mend(text):
+    """A call that mends the configuration."""
+    return running(["mend"], text)
+
+
 def print_beside_python(plain, whole, half):
     """What the texts whole and half take, beside python's json.load of plain, which is whole without comments."""
     python, mcv, mcv_half = best(lambda: json.loads(plain), legs(whole), legs(half))

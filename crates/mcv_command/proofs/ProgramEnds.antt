@@ -9,14 +9,18 @@ use Rattle.mcv_input.proofs.FirstBytes.{whole}
 use Rattle.mcv_input.specs.Fault.{IsOutside}
 use Rattle.mcv_input.specs.declared.fault.RunFault.{RunFault}
 use Rattle.mcv_input.specs.declared.fault.RunFault.TheVariants.{Line, NoRoute, Config, CertificateText, Certificate, Window, Memory, Device}
+use Rattle.mcv_mend.specs.Mending.{IsMendFault}
+use Rattle.mcv_mend.specs.declared.fault.MendFault.{MendFault}
+use Rattle.mcv_mend.specs.declared.fault.MendFault.TheVariants as mend_faults
 use Rattle.mcv_verdict.specs.Fault as check
 use Rattle.mcv_verdict.specs.Verdict.{IsVerdictOn}
 use Rattle.mcv_verdict.specs.declared.verdict.Verdict.{Verdict}
 use Rattle.mcv_verdict.specs.declared.verdict.Verdict.TheVariants.{Covered, Lost}
 use Rattle.mcv_command.specs.declared.stop.Stop.{Stop}
-use Rattle.mcv_command.specs.declared.stop.Stop.TheVariants.{BadLine, Run}
-use Rattle.mcv_command.specs.Program.{Held, IfGiven, IsJudgingFault, IsStop}
-use Rattle.mcv_words.specs.Words.{AsksCheck, AsksRun, RunOrder}
+use Rattle.mcv_command.specs.declared.stop.Stop.TheVariants.{BadLine, Mended, NoChange, Run}
+use Rattle.mcv_command.specs.Program.{Held, IfGiven, IsJudgingFault, IsMendingStop, IsStop}
+use Rattle.mcv_command.specs.Stop.{stop_of_mending}
+use Rattle.mcv_words.specs.Words.{AsksCheck, AsksMend, AsksRun, RunOrder}
 use Rattle.mcv_words.specs.declared.options.Window as asked
 
 -- ---- the faults of a verdict, as the program's
@@ -25,11 +29,30 @@ pub judging_stop : (words : List Text) (held : Held) (input : Option Text) (cert
     → IsJudgingFault held cert window.seconds input stop → IsStop words held input stop
 judging_stop words held input cert window BadLine asks holds = absurd holds
 judging_stop words held input cert window (Run fault) asks holds = inr (inr (inl (cert, window, asks, holds)))
+judging_stop words held input cert window (Mended fault) asks holds = absurd holds
+judging_stop words held input cert window NoChange asks holds = absurd holds
 
 pub running_stop : (words : List Text) (held : Held) (input : Option Text) (order : RunOrder) (stop : Stop) → AsksRun words order
     → IsJudgingFault held None order.settings.window.seconds input stop → IsStop words held input stop
 running_stop words held input order BadLine asks holds = absurd holds
-running_stop words held input order (Run fault) asks holds = inr (inr (inr (order, asks, holds)))
+running_stop words held input order (Run fault) asks holds = inr (inr (inr (inr (order, asks, holds))))
+running_stop words held input order (Mended fault) asks holds = absurd holds
+running_stop words held input order NoChange asks holds = absurd holds
+
+-- ---- what isn't mended
+
+pub mending_fault : (input : Option Text) (fault : MendFault) → IfSome input (λ bytes. IsMendFault bytes fault) → IsMendingStop input (stop_of_mending fault)
+mending_fault input (mend_faults.Run fault) holds = holds
+mending_fault input (mend_faults.Limit fault) holds = holds
+mending_fault input mend_faults.GaveUp holds = holds
+
+pub mending_stop : (words : List Text) (held : Held) (input : Option Text) (stop : Stop) → AsksMend words → IsMendingStop input stop → IsStop words held input stop
+mending_stop words held input BadLine asks holds = absurd holds
+mending_stop words held input (Run fault) asks holds = inr (inr (inr (inl (asks, holds))))
+mending_stop words held input (Mended fault) asks holds = (asks, holds)
+mending_stop words held input NoChange asks holds = (asks, holds)
+
+-- ---- a run's faults
 
 -- a fault that is outside is out of memory or a device's
 pub outside_stop : (stop : Stop) (fault : RunFault) → stop ≡ Run fault → IsOutside fault → stop ≢ Run Device → stop ≢ Run Memory → ⊥

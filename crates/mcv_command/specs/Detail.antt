@@ -10,12 +10,13 @@ use Rattle.mcv_words.specs.declared.words.Job.{Job}
 use Rattle.mcv_words.specs.declared.words.Job.TheVariants as jobs
 use Rattle.mcv_command.specs.declared.stop.Ending.{Ending}
 use Rattle.mcv_command.specs.declared.stop.Stop.{Stop}
-use Rattle.mcv_command.specs.declared.stop.Stop.TheVariants.{BadLine, Run}
+use Rattle.mcv_command.specs.declared.stop.Stop.TheVariants.{BadLine, Mended, NoChange, Run}
 
 -- the job is done on a configuration alone: `legs` has a request before it
 abbrev pub reads_configuration : Job → Bool
 reads_configuration (jobs.Legs at) = false
 reads_configuration (jobs.Check cert window) = true
+reads_configuration jobs.Mend = true
 reads_configuration (jobs.Run options) = true
 
 -- the fault of the configuration, where it is one
@@ -33,6 +34,8 @@ config_fault Device = None
 abbrev pub ended_fault : Result Ending Stop → Option ConfigFault
 ended_fault (Ok ending) = None
 ended_fault (Err BadLine) = None
+ended_fault (Err (Mended fault)) = None
+ended_fault (Err NoChange) = None
 ended_fault (Err (Run fault)) = config_fault fault
 
 -- more is said of a fault of the configuration, which is the input, and of nothing else

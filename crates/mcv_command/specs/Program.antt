@@ -7,20 +7,23 @@ use Rattle.mcv_base.specs.declared.request.Moment.{Moment}
 use Rattle.mcv_input.specs.Fault.{AreNamedBy, IsOutside}
 use Rattle.mcv_legs.specs.Answer.{IsAnswer}
 use Rattle.mcv_legs.specs.Fault as legs
+use Rattle.mcv_mend.specs.Mending.{IsMendFault, IsMendingOn}
+use Rattle.mcv_mend.specs.declared.fault.MendFault.TheVariants as mend_faults
+use Rattle.mcv_mend.specs.declared.fault.Mending.{Mending}
 use Rattle.mcv_route.specs.Routes.{RoutesValue, within}
 use Rattle.mcv_symbolic.specs.CoveredRoutes.{AreCovered}
 use Rattle.mcv_verdict.specs.Fault as check
 use Rattle.mcv_verdict.specs.Verdict.{IsVerdictOn}
 use Rattle.mcv_verdict.specs.declared.verdict.Verdict.{Verdict}
 use Rattle.mcv_verdict.specs.declared.verdict.Verdict.TheVariants as verdicts
-use Rattle.mcv_words.specs.Words.{AsksCheck, AsksRun, IsJobOf, IsLineFault, RunOrder, faults}
+use Rattle.mcv_words.specs.Words.{AsksCheck, AsksMend, AsksRun, IsJobOf, IsLineFault, RunOrder, faults}
 use Rattle.mcv_words.specs.declared.options.Window.{Window}
 use Rattle.mcv_words.specs.declared.words.Job.TheVariants as jobs
 use Rattle.mcv_words.specs.declared.words.LineFault.TheVariants as line_fault
 use Rattle.mcv_command.specs.declared.stop.Ending.{Ending}
 use Rattle.mcv_command.specs.declared.stop.Ending.TheVariants.{Done, Lost}
 use Rattle.mcv_command.specs.declared.stop.Stop.{Stop}
-use Rattle.mcv_command.specs.declared.stop.Stop.TheVariants.{BadLine, Run}
+use Rattle.mcv_command.specs.declared.stop.Stop.TheVariants.{BadLine, Mended, NoChange, Run}
 
 -- what files hold by their names, where that is known
 abbrev pub Held : Type 0
@@ -45,6 +48,20 @@ IsJudged held cert window input old new ending =
 abbrev pub IsJudgingFault : Held → Option Text → (window : ℕ) → (input : Option Text) → Stop → Type 0
 IsJudgingFault held cert window input BadLine = ⊥
 IsJudgingFault held cert window input (Run fault) = IsOutside fault ⊎ IfSome input (λ bytes. IfGiven held cert (λ certificate. check.IsRunFault bytes window certificate fault))
+IsJudgingFault held cert window input (Mended fault) = ⊥
+IsJudgingFault held cert window input NoChange = ⊥
+
+-- what becomes of the input was written: the input with the legs that its deletes lack, or as it is where it is covered
+abbrev pub IsMended : (input old new : Option Text) → Ending → Type 0
+IsMended input old new ending = (mending : Mending) × (text : Text) × IfSome input (λ bytes. IsMendingOn bytes mending text) × Appends old new text × (ending ≡ Done)
+
+-- why nothing is mended: memory ran out, a device failed, or the fault is in the input; or it can lose a delete, and its mended text is over a
+-- limit, or no change was found
+abbrev pub IsMendingStop : (input : Option Text) → Stop → Type 0
+IsMendingStop input BadLine = ⊥
+IsMendingStop input (Run fault) = IfSome input (λ bytes. IsMendFault bytes (mend_faults.Run fault))
+IsMendingStop input (Mended fault) = IfSome input (λ bytes. IsMendFault bytes (mend_faults.Limit fault))
+IsMendingStop input NoChange = IfSome input (λ bytes. IsMendFault bytes mend_faults.GaveUp)
 
 -- what it is that routes were served as `run` was asked for, from what the writer held to what it holds
 abbrev pub Serves : Type 1
@@ -69,21 +86,25 @@ abbrev pub IsShownFor : List Text → Text → Type 0
 IsShownFor words text = IsAmong DisplayHelp (faults words) ⊎ (IsAmong DisplayVersion (faults words) × (text ≡ version_line))
 
 -- help or the version was asked for and shown; or the words ask for legs at a moment, and what answers the input at that moment was written; or they
--- ask for a verdict, and it was written; or they ask for a run, and the proxy served as they ask, or the verdict was written by which
--- it doesn't
+-- ask for a verdict, and it was written; or they ask for the input mended, and it was written; or they ask for a run, and the proxy served as
+-- they ask, or the verdict was written by which it doesn't
 abbrev pub IsDone : List Text → Held → Serves → (input old new : Option Text) → Ending → Type 0
 IsDone words held serves input old new ending =
     ((text : Text) × IsShownFor words text × Appends old new text × (ending ≡ Done))
     ⊎ (((at : Moment) × IsJobOf words (jobs.Legs at) × (text : Text) × IfSome input (λ bytes. IsAnswer at.0 bytes text) × Appends old new text × (ending ≡ Done))
     ⊎ (((cert : Option Text) × (window : Window) × AsksCheck words cert window × IsJudged held cert window.seconds input old new ending)
-    ⊎ ((order : RunOrder) × AsksRun words order × IsServed held serves order input old new ending)))
+    ⊎ ((AsksMend words × IsMended input old new ending)
+    ⊎ ((order : RunOrder) × AsksRun words order × IsServed held serves order input old new ending))))
 
--- the words are at fault; or memory ran out, or a device failed; or the words ask for legs, for a verdict or for a run, and the fault is in
--- what was read
+-- the words are at fault; or memory ran out, or a device failed; or the words ask for legs, for a verdict, for the input mended or for a run, and
+-- the fault is in what was read; or it isn't mended
 abbrev pub IsStop : List Text → Held → (input : Option Text) → Stop → Type 0
 IsStop words held input BadLine = IsLineFault words line_fault.BadLine
 IsStop words held input (Run fault) =
     IsOutside fault
     ⊎ (((at : Moment) × IsJobOf words (jobs.Legs at) × IfSome input (λ bytes. legs.IsRunFault bytes fault))
     ⊎ (((cert : Option Text) × (window : Window) × AsksCheck words cert window × IsJudgingFault held cert window.seconds input (Run fault))
-    ⊎ ((order : RunOrder) × AsksRun words order × IsJudgingFault held None order.settings.window.seconds input (Run fault))))
+    ⊎ ((AsksMend words × IsMendingStop input (Run fault))
+    ⊎ ((order : RunOrder) × AsksRun words order × IsJudgingFault held None order.settings.window.seconds input (Run fault)))))
+IsStop words held input (Mended fault) = AsksMend words × IsMendingStop input (Mended fault)
+IsStop words held input NoChange = AsksMend words × IsMendingStop input NoChange

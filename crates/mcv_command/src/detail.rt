@@ -19,6 +19,7 @@ pub fn reads_configuration(job: &Job<'_>) -> bool
     match job {
         Job::Legs { .. } => false,
         Job::Check { .. } => true,
+        Job::Mend => true,
         Job::Run(_) => true,
     }
 }
@@ -45,6 +46,8 @@ fn fault_of(ended: &Result<Ending, Stop>) -> Option<&ConfigFault>
     match ended {
         Ok(_) => None,
         Err(Stop::BadLine) => None,
+        Err(Stop::Mended(_)) => None,
+        Err(Stop::NoChange) => None,
         Err(Stop::Run(fault)) => config_fault(fault),
     }
 }

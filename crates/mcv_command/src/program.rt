@@ -1,7 +1,7 @@
 //! The program, over any reader and writer in place of standard input and output, any files and any proxy.
 
 ghost use Rattle.std.specs.Prelude.{◌≡◌, ◌≢◌, None, Some, IfErr, IfOk, map};
-ghost use Rattle.mcv_command.specs.Program.{AsksAnyRun, Held, IsDone, IsJudged, IsJudgingFault, IsServed, IsStop, ending_of};
+ghost use Rattle.mcv_command.specs.Program.{AsksAnyRun, Held, IsDone, IsJudged, IsJudgingFault, IsMended, IsMendingStop, IsServed, IsStop, ending_of};
 ghost use Rattle.mcv_command.specs.declared.stop.Stop.TheVariants.{Run};
 ghost use Rattle.mcv_input.specs.declared.fault.RunFault.TheVariants.{Device, Memory};
 ghost use Rattle.mcv_words.specs.Words.{order_of};
@@ -11,6 +11,7 @@ use crate::proxy::Proxy;
 use crate::stop::{Ending, Stop};
 use mcv_input::{RunFault, write_text};
 use mcv_legs::run_legs;
+use mcv_mend::run_mend;
 use mcv_verdict::{Judgement, Verdict, judge_input, run_check};
 use mcv_words::{Job, LineFault, RunOptions, Window, read_words};
 use std::alloc::Global;
@@ -63,6 +64,16 @@ fn judge_by<R: Read, W: Write, F: NamedFiles>(
     Ok(ending_of(verdict))
 }
 
+/// Writes a configuration with the legs that its deletes lack, and one that is covered as it is.
+fn mend<R: Read, W: Write>(alloc: Global, reader: &mut R, writer: &mut W) -> Result<Ending, Stop>
+    ensures done { IfOk result (IsMended (R.remaining reader.old) (W.contents writer.old) (W.contents writer.new)) }
+    ensures stop { IfErr result (IsMendingStop (R.remaining reader.old)) }
+    ensures silent { IfErr result (λ stop. stop ≢ Run Device → W.contents writer.new ≡ W.contents writer.old) }
+{
+    let _mending = run_mend(alloc, reader, writer)?;
+    Ok(Ending::Done)
+}
+
 /// Judges a configuration, and has it served where it is covered; else the verdict is written.
 fn serve<R: Read, W: Write, P: Proxy>(
     alloc: Global,
@@ -93,7 +104,7 @@ fn serve<R: Read, W: Write, P: Proxy>(
 }
 
 /// Does what the words of a command line ask for, of which the first is the program's name: help,
-/// legs and verdicts are written to the writer, and so is what the proxy says of itself.
+/// legs, verdicts and a mended configuration are written to the writer, and so is what the proxy says of itself.
 pub fn run_words<'a, R: Read, W: Write, F: NamedFiles, P: Proxy>(
     alloc: Global,
     words: &'a [&'a str],
@@ -120,6 +131,7 @@ pub fn run_words<'a, R: Read, W: Write, F: NamedFiles, P: Proxy>(
                 window,
             },
         ) => judge_by(alloc, name, window, files, reader, writer),
+        Ok(Job::Mend) => mend(alloc, reader, writer),
         Ok(Job::Run(options)) => serve(alloc, proxy, options, reader, writer),
         Err(LineFault::Help(text)) => {
             write_text(writer, text.as_bytes())?;

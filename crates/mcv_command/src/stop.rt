@@ -2,11 +2,13 @@
 //! `stop_text`.
 
 ghost use Rattle.std.specs.Prelude.{◌≡◌, Some};
-ghost use Rattle.mcv_command.specs.Stop.{ended_status, ending_status, stop_status, stop_text};
+ghost use Rattle.mcv_command.specs.Stop.{ended_status, ending_status, stop_of_mending, stop_status, stop_text};
 ghost use Rattle.mcv_command.specs.declared.stop.Stop.TheVariants.{Run};
 ghost use Rattle.mcv_input.specs.declared.fault.RunFault.TheVariants.{Memory as out_of_memory};
 
+use mcv_config::ConfigFault;
 use mcv_input::RunFault;
+use mcv_mend::MendFault;
 use std::alloc::AllocError;
 use std::fmt;
 
@@ -38,16 +40,21 @@ pub enum Stop {
     BadLine,
     /// What they ask for can't be done.
     Run(RunFault),
+    /// The mended configuration would be over a limit.
+    Mended(ConfigFault),
+    /// No change was found that covers the configuration.
+    NoChange,
 }
 
 impl Stop {
-    /// The exit status of the program: 1, 2, 4 or 5.
+    /// The exit status of the program: 1, 2, 3, 4 or 5.
     pub fn status(&self) -> u8
         ensures { result ≡ stop_status self.now }
     {
         match self {
             Stop::BadLine => 1,
             Stop::Run(fault) => fault.status(),
+            Stop::Mended(_) | Stop::NoChange => 3,
         }
     }
 }
@@ -69,6 +76,12 @@ impl fmt::Display for Stop {
         match self {
             Stop::BadLine => write!(f, "mcv: bad command line"),
             Stop::Run(fault) => write!(f, "mcv: {fault}"),
+            Stop::Mended(fault) => {
+                let number = fault.number();
+                let path = fault.path();
+                write!(f, "mcv: mended configuration {number} at {path}")
+            }
+            Stop::NoChange => write!(f, "mcv: no change found"),
         }
     }
 }
@@ -78,6 +91,18 @@ impl From<RunFault> for Stop {
 
     fn from(fault: RunFault) -> Stop {
         Stop::Run(fault)
+    }
+}
+
+impl From<MendFault> for Stop {
+    ghost from_gives = { λ fault stop. stop ≡ stop_of_mending fault };
+
+    fn from(fault: MendFault) -> Stop {
+        match fault {
+            MendFault::Run(fault) => Stop::Run(fault),
+            MendFault::Limit(fault) => Stop::Mended(fault),
+            MendFault::GaveUp => Stop::NoChange,
+        }
     }
 }
 

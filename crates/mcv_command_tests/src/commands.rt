@@ -37,6 +37,9 @@ mcv check --cert a --cert b: bad line
 mcv check a.cert: bad line
 mcv check --at 1: bad line
 mcv legs --cert a: bad line
+mcv mend: mend
+mcv mend mcrouter.json: bad line
+mcv mend --window 60: bad line
 mcv run --listen h:1 --spool f: run h:1 f - 1 0 - -
 mcv run --spool=f --listen=h:1 --sessions=+7: run h:1 f 7 1 0 - -
 mcv run --listen h:1 --spool f --sessions 1: run h:1 f 1 1 0 - -
@@ -88,6 +91,8 @@ mcv help legs: help
 mcv check --help: help
 mcv help check: help
 mcv legs --help: help
+mcv mend --help: help
+mcv help mend: help
 mcv run --help: help
 mcv run -h: help
 mcv help run: help
@@ -132,6 +137,7 @@ fn job_text(rt: &(impl AllocGlobal + Abort), job: Job<'_>) -> String {
             cert: Some(name),
             window,
         } => format!(in rt.alloc(); "check {} by {name}", window.seconds),
+        Job::Mend => format!(in rt.alloc(); "mend"),
         Job::Run(options) => {
             let order = order_text(rt, options);
             format!(in rt.alloc(); "run {order}")
@@ -275,8 +281,10 @@ const MAIN_PARTS: &[&str] = &[
     "mcrouter",
     "  check  ",
     "  legs  ",
+    "  mend  ",
     "  run  ",
     "\n  mcv check < mcrouter.json\n",
+    "\n  mcv mend < mcrouter.json > mended.json\n",
     "\n  (echo 'delete a'; cat mcrouter.json) | mcv legs\n",
     "\n  mcv run --listen 127.0.0.1:5000 --spool mcv.spool --server-timeout 1000 \\\n    < mcrouter.json\n",
     "Exit status:",
@@ -308,11 +316,21 @@ const LEGS_PARTS: &[&str] = &[
     "mcv: configuration NUMBER at PATH",
 ];
 
+const MEND_PARTS: &[&str] = &[
+    "Usage: mcv mend < FILE",
+    "\n  mcv mend < mcrouter.json > mended.json && diff mcrouter.json mended.json\n",
+    "\n  3  nothing is written",
+    "mcv: configuration NUMBER at PATH",
+    "mcv: mended configuration 7 at PATH",
+    "mcv: no change found",
+];
+
 #[test]
 fn help_names_input_and_exit_statuses(rt: HostRuntime) {
     check_parts(&rt, &["mcv", "--help"], MAIN_PARTS);
     check_parts(&rt, &["mcv", "check", "--help"], CHECK_PARTS);
     check_parts(&rt, &["mcv", "legs", "--help"], LEGS_PARTS);
+    check_parts(&rt, &["mcv", "mend", "--help"], MEND_PARTS);
 }
 
 const RUN_PARTS: &[&str] = &[
@@ -352,6 +370,7 @@ fn help_names_each_handle_within_eighty_columns(rt: HostRuntime) {
     }
     check_columns(&rt, &["mcv", "legs", "--help"]);
     check_columns(&rt, &["mcv", "check", "--help"]);
+    check_columns(&rt, &["mcv", "mend", "--help"]);
 }
 
 const POOL: &str = "{\"pools\":{\"A\":{\"servers\":[\"a:11211\"]}},\"route\":\"PoolRoute|A\"}";
@@ -496,6 +515,24 @@ fn configurations_are_judged(rt: HostRuntime) {
     check_said(&rt, &["mcv", "check"], POOL, COVERED, 0);
     check_said(&rt, &["mcv", "check"], WARM_UP, LOST, 3);
     check_said(&rt, &["mcv", "check"], "{", "mcv: configuration 1 at .", 2);
+}
+
+const WARM_UP_MENDED: &str =
+    "{\"pools\":{\"A\":{\"servers\":[\"a:11211\"]},\"B\":{\"servers\":[\"b:11211\"]}},\"route\":{\"type\": \"OperationSelectorRoute\", \"operation_policies\": {\"delete\": {\"type\": \"AllSyncRoute\", \"children\": [\"PoolRoute|A\", \"PoolRoute|B\"]}}, \"default_policy\": {\"type\":\"WarmUpRoute\",\"cold\":\"PoolRoute|A\",\"warm\":\"PoolRoute|B\"}}}";
+
+/// The deepest route that is read, of which deletes lack a leg.
+const DEEPEST: &str =
+    "{\"pools\":{\"C\":{\"servers\":[\"a:11211\",\"b:11211\"]}},\"route\":\"AllSyncRoute|AllSyncRoute|AllSyncRoute|AllSyncRoute|AllSyncRoute|AllSyncRoute|AllSyncRoute|AllSyncRoute|AllSyncRoute|AllSyncRoute|AllSyncRoute|AllSyncRoute|AllSyncRoute|AllSyncRoute|AllSyncRoute|AllSyncRoute|AllSyncRoute|AllSyncRoute|AllSyncRoute|AllSyncRoute|AllSyncRoute|AllSyncRoute|AllSyncRoute|AllSyncRoute|AllSyncRoute|AllSyncRoute|AllSyncRoute|AllSyncRoute|AllSyncRoute|FailoverRoute|Pool|C\"}";
+
+const TOO_DEEP: &str = "mcv: mended configuration 7 at /route/operation_policies/delete/children/0";
+
+#[test]
+fn configurations_are_mended(rt: HostRuntime) {
+    check_said(&rt, &["mcv", "mend"], WARM_UP, WARM_UP_MENDED, 0);
+    check_said(&rt, &["mcv", "mend"], POOL, POOL, 0);
+    check_said(&rt, &["mcv", "mend"], DEEPEST, TOO_DEEP, 3);
+    check_said(&rt, &["mcv", "mend"], "{", "mcv: configuration 1 at .", 2);
+    check_stop(&rt, "mend", "mcv: configuration 1 at .", 2);
 }
 
 /// What the program says and does where it is to serve three sessions at an address by two proxies.

@@ -1,0 +1,4 @@
+pub mod Place
+pub mod Stands
+pub mod Quoted
+pub mod Parts

@@ -1,7 +1,12 @@
 //! Where the values of a text stand.
 
+ghost use Rattle.std.specs.Prelude.{IfOk, IfSome, length};
+ghost use Rattle.mcv_spans.specs.Place.{view};
+ghost use Rattle.mcv_spans.specs.Stands.{StandsIn};
+
 use crate::blanks::behind_blanks;
 use crate::quoted::{quoted_len, unquoted};
+use crate::standing::stands_in;
 use crate::value::{Located, Member, Span};
 use std::alloc::{AllocError, Global};
 use std::collections::BTreeMap;
@@ -9,11 +14,28 @@ use std::collections::BTreeMap;
 /// The most levels of values.
 const DEPTH_LIMIT: usize = 128;
 
-/// The value of a text; None where that is no JSON for as far as it was looked at.
-pub fn locate(alloc: Global, text: &[u8]) -> Result<Option<Located>, AllocError> {
-    match read_value(alloc, text.len(), behind_blanks(text), DEPTH_LIMIT)? {
-        Some((value, _)) => Ok(Some(value)),
-        None => Ok(None),
+/// The value of a text, each part where it stands; None where that is no JSON for as far as it was looked at.
+pub fn locate(alloc: Global, text: &[u8]) -> Result<Option<Located>, AllocError>
+    ensures { IfOk result (λ found. IfSome found (λ value. StandsIn text.now 0 (length text.now) (view value))) }
+{
+    let Some((value, _)) = read_value(alloc, text.len(), behind_blanks(text), DEPTH_LIMIT)? else {
+        return Ok(None);
+    };
+    confirmed(alloc, text, value)
+}
+
+/// The value, where it stands in the text.
+fn confirmed(alloc: Global, text: &[u8], value: Located) -> Result<Option<Located>, AllocError>
+    ensures { IfOk result (λ found. IfSome found (λ value. StandsIn text.now 0 (length text.now) (view value))) }
+{
+    let whole = Span {
+        start: 0,
+        end: text.len(),
+    };
+    if stands_in(alloc, text, whole, &value)? {
+        Ok(Some(value))
+    } else {
+        Ok(None)
     }
 }
 

@@ -1,6 +1,7 @@
 //! Texts between quotes.
 
-ghost use Rattle.std.specs.Prelude.{◌<◌};
+ghost use Rattle.std.specs.Prelude.{◌≡◌, ◌<◌, ◌++◌, OnOk};
+ghost use Rattle.mcv_spans.specs.Quoted.{escaped_byte, hex_digit, quoted};
 
 use memchr::memchr;
 use serde_json::Value;
@@ -53,7 +54,9 @@ fn escaped_text(alloc: Global, quoted: &[u8]) -> Result<Option<String>, AllocErr
 }
 
 /// Adds a text between quotes, with the escapes that it needs.
-pub fn push_quoted(text: &mut Vec<u8>, body: &[u8]) -> Result<(), AllocError> {
+pub fn push_quoted(text: &mut Vec<u8>, body: &[u8]) -> Result<(), AllocError>
+    ensures { OnOk result (text.new.items ≡ text.old.items ++ quoted body.now) }
+{
     text.push(b'"')?;
     for byte in body {
         push_escaped(text, *byte)?;
@@ -63,7 +66,9 @@ pub fn push_quoted(text: &mut Vec<u8>, body: &[u8]) -> Result<(), AllocError> {
 }
 
 /// Adds a byte of a text between quotes.
-fn push_escaped(text: &mut Vec<u8>, byte: u8) -> Result<(), AllocError> {
+fn push_escaped(text: &mut Vec<u8>, byte: u8) -> Result<(), AllocError>
+    ensures { OnOk result (text.new.items ≡ text.old.items ++ escaped_byte byte) }
+{
     match byte {
         b'"' => text.extend_from_slice(b"\\\"")?,
         b'\\' => text.extend_from_slice(b"\\\\")?,
@@ -79,10 +84,11 @@ fn push_escaped(text: &mut Vec<u8>, byte: u8) -> Result<(), AllocError> {
 
 fn hex_digit(number: u8) -> u8
     requires { number < 16 }
+    ensures { result ≡ hex_digit number }
 {
     if number < 10 {
         b'0' + number
     } else {
-        b'a' - 10 + number
+        b'a' + (number - 10)
     }
 }

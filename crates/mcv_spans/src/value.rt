@@ -1,5 +1,9 @@
 //! Values, by where they stand in their text.
 
+ghost use Rattle.std.specs.Prelude.{◌≡◌, option_map};
+ghost use Rattle.mcv_spans.specs.Parts.{items_in, members_in, text_in};
+ghost use Rattle.mcv_spans.specs.Place.{items_view, members_view, span_of, view};
+
 /// Bytes of a text, from `start` up to, not including, `end`.
 #[derive(Clone, Copy, Debug, PartialEq, Eq)]
 pub struct Span {
@@ -28,7 +32,9 @@ pub enum Located {
 
 impl Located {
     /// Where it stands.
-    pub fn span(&self) -> Span {
+    pub fn span(&self) -> Span
+        ensures { result ≡ span_of (view self.now) }
+    {
         match self {
             Located::Object(span, _) => *span,
             Located::Array(span, _) => *span,
@@ -38,7 +44,9 @@ impl Located {
     }
 
     /// The members of an object, in the byte order of their names.
-    pub fn members(&self) -> Option<&[Member]> {
+    pub fn members(&self) -> Option<&[Member]>
+        ensures { option_map (λ members. members_view members.now) result ≡ members_in (view self.now) }
+    {
         match self {
             Located::Object(_, members) => Some(members.as_slice()),
             _ => None,
@@ -46,7 +54,9 @@ impl Located {
     }
 
     /// The values of an array.
-    pub fn items(&self) -> Option<&[Located]> {
+    pub fn items(&self) -> Option<&[Located]>
+        ensures { option_map (λ items. items_view items.now) result ≡ items_in (view self.now) }
+    {
         match self {
             Located::Array(_, items) => Some(items.as_slice()),
             _ => None,
@@ -54,14 +64,16 @@ impl Located {
     }
 
     /// The text of a text.
-    pub fn text(&self) -> Option<&str> {
+    pub fn text(&self) -> Option<&str>
+        ensures { option_map (λ text. text.now) result ≡ text_in (view self.now) }
+    {
         match self {
             Located::Text(_, text) => Some(text.as_str()),
             _ => None,
         }
     }
 
-    /// The value of the member of this name.
+    /// The value of the member of this name, in an object whose members come in the byte order of their names.
     pub fn get(&self, name: &str) -> Option<&Located> {
         let members = self.members()?;
         let place = members.partition_point(|member| member.name.as_bytes() < name.as_bytes());

@@ -1,5 +1,5 @@
-//! The program `mcv` without its proxy, for who only judges configurations: `legs` and `check` as in the whole program.
-//! `run` is a bad command line here.
+//! The program `mcv` without its proxy, for who only judges and mends configurations: `legs`, `check` and `mend` as in the
+//! whole program. `run` is a bad command line here.
 #![tactic(auto)]
 
 use mcv_check::Accepted;

@@ -116,6 +116,21 @@ too_wide_a_window : faults (codes "mcv" ∷ codes "check" ∷ codes "--window" �
 unfolding clap_on_literals
 too_wide_a_window = refl
 
+mend : faults (codes "mcv" ∷ codes "mend" ∷ []) ≡ []
+unfolding clap_on_literals
+mend = refl
+
+abbrev name_of : Option (Text × List Row) → Option Text
+name_of = option_map (λ p. p.0)
+
+mend_named : name_of (named (codes "mcv" ∷ codes "mend" ∷ [])) ≡ Some (codes "mend")
+unfolding clap_on_literals
+mend_named = refl
+
+mend_of_a_file : faults (codes "mcv" ∷ codes "mend" ∷ codes "mcrouter.json" ∷ []) ≡ UnknownArgument ∷ []
+unfolding clap_on_literals
+mend_of_a_file = refl
+
 abbrev at_address : List Text
 at_address = codes "mcv" ∷ codes "run" ∷ codes "--listen" ∷ codes "h:1" ∷ []
 

@@ -15,7 +15,7 @@ use Rattle.clap.specs.Simple.{subcommand_rows}
 use Rattle.mcv_words.specs.Ranges.{proxy_limit, session_limit, timeout_limit, window_limit}
 use Rattle.mcv_words.specs.Words.{faults, named, CanRun, IsCheckOf, IsFaultOfKind, IsGivenIn, IsJobOf, IsLineFault, IsNumberOf, IsRunOf, MayBeGivenIn}
 use Rattle.mcv_words.specs.declared.words.Job.{Job}
-use Rattle.mcv_words.specs.declared.words.Job.TheVariants.{Legs, Check, Run}
+use Rattle.mcv_words.specs.declared.words.Job.TheVariants.{Legs, Check, Mend, Run}
 use Rattle.mcv_words.proofs.OptionValues.{HasAll, HasNumber, MayHaveNumber}
 use Rattle.mcv_words.specs.declared.words.LineFault.{LineFault}
 use Rattle.mcv_words.specs.declared.words.LineFault.TheVariants.{BadLine, Memory, Help, Version}
@@ -128,10 +128,12 @@ can_run rows has = record {
 pub check_asked : (words : List Text) (rows : List Row) (job : Job) → faults words ≡ [] → named words ≡ Some (codes "check", rows) → IsCheckOf rows job → IsJobOf words job
 check_asked words rows (Legs at) none check of = absurd of
 check_asked words rows (Check cert window) none check of = (none, rows, check, of)
+check_asked words rows Mend none check of = absurd of
 check_asked words rows (Run options) none check of = absurd of
 
 -- the job of `run` that has the values of the words is what they ask for
 pub run_asked : (words : List Text) (rows : List Row) (job : Job) → faults words ≡ [] → named words ≡ Some (codes "run", rows) → IsRunOf rows job → IsJobOf words job
 run_asked words rows (Legs at) none run of = absurd of
 run_asked words rows (Check cert window) none run of = absurd of
+run_asked words rows Mend none run of = absurd of
 run_asked words rows (Run options) none run of = (none, rows, run, of)

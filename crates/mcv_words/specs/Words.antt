@@ -15,7 +15,7 @@ use Rattle.mcv_words.specs.declared.options.Sessions.{Sessions}
 use Rattle.mcv_words.specs.declared.options.Settings.{Settings}
 use Rattle.mcv_words.specs.declared.options.Window.{Window}
 use Rattle.mcv_words.specs.declared.words.Job.{Job}
-use Rattle.mcv_words.specs.declared.words.Job.TheVariants.{Legs, Check, Run}
+use Rattle.mcv_words.specs.declared.words.Job.TheVariants.{Legs, Check, Mend, Run}
 use Rattle.mcv_words.specs.declared.words.LineFault.{LineFault}
 use Rattle.mcv_words.specs.declared.words.LineFault.TheVariants.{BadLine, Memory, Help, Version}
 
@@ -55,6 +55,10 @@ window_rule = record (number_rule (codes "window") 0 window_limit) { defaults = 
 abbrev pub check_app : App
 check_app = with_rule (with_rule (new_app (codes "check")) cert_rule) window_rule
 
+-- `mend`
+abbrev pub mend_app : App
+mend_app = new_app (codes "mend")
+
 -- `--listen ADDRESS`, `--spool FILE`: wanted
 abbrev pub listen_rule : Rule
 listen_rule = record (option_rule (codes "listen")) { required = true }
@@ -93,9 +97,9 @@ with_version app = record app { top = record app.top { has_version = true } }
 abbrev pub wanting_a_command : App → App
 wanting_a_command app = record app { top = record app.top { subcommand_required = true } }
 
--- `mcv check`, `mcv legs` and `mcv run` with their options; `mcv --version`
+-- `mcv check`, `mcv legs`, `mcv mend` and `mcv run` with their options; `mcv --version`
 abbrev pub mcv_app : App
-mcv_app = with_subcommand (with_subcommand (with_subcommand (wanting_a_command (with_version (new_app (codes "mcv")))) check_app.top) legs_app.top) run_app.top
+mcv_app = with_subcommand (with_subcommand (with_subcommand (with_subcommand (wanting_a_command (with_version (new_app (codes "mcv")))) check_app.top) legs_app.top) mend_app.top) run_app.top
 
 -- ---- what words ask for
 
@@ -119,6 +123,10 @@ HasCheckValues rows cert window = (cert ≡ first_of (codes "cert") rows) × IsN
 -- clap takes the words, and they name the command `check` with these values
 abbrev pub AsksCheck : List Text → (cert : Option Text) → Window → Type 0
 AsksCheck words cert window = (faults words ≡ []) × (rows : List Row) × (named words ≡ Some (codes "check", rows)) × HasCheckValues rows cert window
+
+-- clap takes the words, and they name the command `mend`
+abbrev pub AsksMend : List Text → Type 0
+AsksMend words = (faults words ≡ []) × (rows : List Row) × (named words ≡ Some (codes "mend", rows))
 
 -- the value of an option that may be left out: none, or a number
 abbrev pub IsNumberIfGiven : (option : Text) → List Row → Option ℕ → Type 0
@@ -156,12 +164,14 @@ AsksRun words order = (faults words ≡ []) × (rows : List Row) × (named words
 abbrev pub IsCheckOf : List Row → Job → Type 0
 IsCheckOf rows (Legs at) = ⊥
 IsCheckOf rows (Check cert window) = HasCheckValues rows (option_map (λ name. name.now) cert) window
+IsCheckOf rows Mend = ⊥
 IsCheckOf rows (Run options) = ⊥
 
 -- the job of `run` with these values
 abbrev pub IsRunOf : List Row → Job → Type 0
 IsRunOf rows (Legs at) = ⊥
 IsRunOf rows (Check cert window) = ⊥
+IsRunOf rows Mend = ⊥
 IsRunOf rows (Run options) = HasRunValues rows (order_of options)
 
 -- the option is given a number of this range
@@ -186,6 +196,7 @@ pub record CanRun (rows : List Row) : Type 0 where
 abbrev pub IsJobOf : List Text → Job → Type 0
 IsJobOf words (Check cert window) = AsksCheck words (option_map (λ name. name.now) cert) window
 IsJobOf words (Legs at) = (faults words ≡ []) × (rows : List Row) × (named words ≡ Some (codes "legs", rows)) × IsNumberOf (codes "at") rows at.0
+IsJobOf words Mend = AsksMend words
 IsJobOf words (Run options) = AsksRun words (order_of options)
 
 -- why words ask for no job: clap finds a fault with them that isn't the wish for help or for the

@@ -3,15 +3,17 @@
 pub(crate) const ABOUT: &str =
     "Verifies configurations of mcrouter, the routing proxy for memcached.
 `mcv check` decides whether a delete can be acknowledged that was never sent to
-a server which can be read. `mcv legs` shows to which servers a configuration
-sends a request. `mcv run` serves clients by a configuration for which that
-can't happen.";
+a server which can be read, and `mcv mend` adds the deletes that are missing.
+`mcv legs` shows to which servers a configuration sends a request. `mcv run`
+serves clients by a configuration for which that can't happen.";
 
 pub(crate) const EXAMPLE: &str =
-    "Examples: can a configuration lose a delete? Which servers does a delete of the
-key `a` reach? Serve clients at port 5000.
+    "Examples: can a configuration lose a delete? Write it with the deletes that it
+lacks. Which servers does a delete of the key `a` reach? Serve clients at port
+5000.
 
   mcv check < mcrouter.json
+  mcv mend < mcrouter.json > mended.json
   (echo 'delete a'; cat mcrouter.json) | mcv legs
   mcv run --listen 127.0.0.1:5000 --spool mcv.spool --server-timeout 1000 \\
     < mcrouter.json
@@ -20,7 +22,8 @@ Exit status:
   0  done, or help or the version was asked for
   1  bad command line, or bad request line
   2  the configuration is refused, or has no route for the key
-  3  the configuration can lose a delete (never with --cert: 5 then)
+  3  the configuration can lose a delete (never with --cert: 5 then), and with
+     `mcv mend` no change is found, or one is over a limit
   4  out of memory, or a device failed: reading, writing, the address, the spool
   5  the certificate is refused
 
@@ -163,6 +166,35 @@ as `mcv: certificate fault NUMBER`:
 
 A configuration that isn't read is reported as
 `mcv: configuration NUMBER at PATH`: `mcv legs --help` has the numbers.";
+
+pub(crate) const MEND_ABOUT: &str = "Adds the deletes that a configuration lacks";
+
+pub(crate) const MEND_FORM: &str =
+    "Standard input has the configuration as JSON; `mcv legs --help` says which route
+handles are read. Where it can lose a delete, standard output has it with legs
+added to its deletes, so that `mcv check` finds it covered:
+
+  mcv mend < mcrouter.json > mended.json && diff mcrouter.json mended.json
+
+What is written is what was read, with insertions: comments, order and spaces
+stay. Legs are added and none is taken away; only deletes are sent otherwise
+than before. The legs that keys of one class get are the least: with any of them
+left out, a server could be read that misses a delete. A configuration that is
+covered is written byte for byte. As with `mcv check` without `--window`, a read
+and a delete are judged at one stage of each migration.
+
+Exit status:
+  0  written, or help was asked for
+  1  bad command line
+  2  the configuration is refused
+  3  nothing is written: no change is found, or it is over a limit
+  4  out of memory, or a device failed: standard input or standard output
+
+A configuration that isn't read is reported as
+`mcv: configuration NUMBER at PATH`: `mcv legs --help` has the numbers. A mended
+one that would be over a limit is reported as
+`mcv: mended configuration 7 at PATH`, by its path in the mended one, and where
+no change is found as `mcv: no change found`.";
 
 pub(crate) const RUN_ABOUT: &str = "Serves clients by a configuration that can't lose a delete";
 

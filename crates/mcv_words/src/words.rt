@@ -5,12 +5,12 @@ ghost use Rattle.std.specs.Prelude.{◌≡◌, codes, false, option_map, IfOk, I
 ghost use Rattle.clap.specs.Words.{Text, app_of, found_of, kind_of, rows_of, rule_of};
 ghost use Rattle.clap.specs.declared.builder.command.Command.TheViews.{out-Command as fields_of};
 ghost use Rattle.mcv_words.specs.Ranges.{window_limit};
-ghost use Rattle.mcv_words.specs.Words.{at_rule, cert_rule, check_app, client_timeout_rule, legs_app, listen_rule, mcv_app, proxies_rule, run_app, server_timeout_rule, sessions_rule, spool_rule, window_rule, line_fault_number, CanRun, IsCheckOf, IsFaultOfKind, IsGivenIn, IsJobOf, IsLineFault, IsNumberIfGiven, IsRunOf, MayBeGivenIn};
+ghost use Rattle.mcv_words.specs.Words.{at_rule, cert_rule, check_app, client_timeout_rule, legs_app, listen_rule, mcv_app, mend_app, proxies_rule, run_app, server_timeout_rule, sessions_rule, spool_rule, window_rule, line_fault_number, CanRun, IsCheckOf, IsFaultOfKind, IsGivenIn, IsJobOf, IsLineFault, IsNumberIfGiven, IsRunOf, MayBeGivenIn};
 ghost use Rattle.mcv_words.specs.declared.words.LineFault.TheVariants.{Memory as out_of_memory};
 
 use crate::help::{
     ABOUT, AT, CERT, CHECK_ABOUT, CHECK_FORM, CLIENT_TIMEOUT, EXAMPLE, LEGS_ABOUT, LEGS_FORM,
-    LISTEN, PROXIES, RUN_ABOUT, RUN_FORM, SERVER_TIMEOUT, SESSIONS, SPOOL, WINDOW,
+    LISTEN, MEND_ABOUT, MEND_FORM, PROXIES, RUN_ABOUT, RUN_FORM, SERVER_TIMEOUT, SESSIONS, SPOOL, WINDOW,
 };
 use crate::options::{
     ClientTimeout, InRange, Proxies, RunOptions, ServerTimeout, Sessions, Settings, Window,
@@ -34,6 +34,8 @@ pub enum Job<'a> {
         cert: Option<&'a str>,
         window: Window,
     },
+    /// To mend a configuration.
+    Mend,
     /// To serve clients.
     Run(RunOptions<'a>),
 }
@@ -130,6 +132,16 @@ fn check_command<'a>(alloc: Global) -> Result<Command<'a>, AllocError>
         .after_help(CHECK_FORM)
         .arg(cert_option(alloc))?
         .arg(window_option(alloc))
+}
+
+fn mend_command<'a>(alloc: Global) -> Command<'a>
+    ensures app { app_of result ≡ mend_app }
+    ensures local { (fields_of result).has_globals ≡ false }
+{
+    Command::new(alloc, "mend")
+        .about(MEND_ABOUT)
+        .override_usage("mcv mend < FILE")
+        .after_help(MEND_FORM)
 }
 
 fn listen_option<'a>(alloc: Global) -> Arg<'a>
@@ -230,6 +242,7 @@ fn command<'a>(alloc: Global) -> Result<Command<'a>, AllocError>
         .bin_name("mcv")?
         .subcommand(check)?
         .subcommand(legs)?
+        .subcommand(mend_command(alloc))?
         .subcommand(run)
 }
 
@@ -324,6 +337,9 @@ pub fn read_words<'a>(alloc: Global, words: &'a [&'a str]) -> Result<Job<'a>, Li
             return Err(LineFault::BadLine);
         };
         return Ok(job);
+    }
+    if let Some(_found) = matches.subcommand_matches("mend") {
+        return Ok(Job::Mend);
     }
     if let Some(found) = matches.subcommand_matches("run") {
         let Ok(job) = run_job(found) else {

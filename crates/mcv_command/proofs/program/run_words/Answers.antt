@@ -4,7 +4,7 @@ use Rattle.clap.specs.Words.{Text}
 use Rattle.mcv_command.specs.Program.{IsStop}
 use Rattle.mcv_command.specs.declared.stop.Stop.{Stop}
 use Rattle.mcv_command.specs.declared.stop.Stop.TheVariants.{Run}
-use Rattle.mcv_command.proofs.ProgramEnds.{judging_stop, running_stop}
+use Rattle.mcv_command.proofs.ProgramEnds.{judging_stop, mending_stop, running_stop}
 use Rattle.mcv_words.specs.Words.{order_of}
 use Rattle.mcv_command.proofs.program.run_words.Goals as goal
 
@@ -56,11 +56,24 @@ returns-in-Ok-Check-None-default-clause-stop g c =
     let asks = rw (c.in-Ok-Check-None-default.field-0-is, c.in-Ok-Check-None-default.field-0-0-is) at c.in-Ok-Check-None-default.ensures.job in
     IfErr-weaker c.judge.result _ _ (λ stop holds. judging_stop words held known None c.in-Ok-Check-None-default.window stop asks holds) (c.judge.ensures.stop held)
 
+pub returns-in-Ok-Mend-clause-done : goal.returns-in-Ok-Mend-clause-done
+returns-in-Ok-Mend-clause-done g c =
+    let asks = rw c.in-Ok-Mend.field-0-is at c.in-Ok-Mend.ensures.job in
+    IfOk-weaker c.mend.result _ _ (λ ending mended. inr (inr (inr (inl (asks, mended))))) c.mend.ensures.done
+
+pub returns-in-Ok-Mend-clause-stop : goal.returns-in-Ok-Mend-clause-stop
+returns-in-Ok-Mend-clause-stop g c =
+    let words : List Text = map (λ w. w.now) c.args.words.now in
+    let held = g.F.NamedFiles.held c.args.files.now in
+    let known = g.R.Read.remaining c.args.reader.now in
+    let asks = rw c.in-Ok-Mend.field-0-is at c.in-Ok-Mend.ensures.job in
+    IfErr-weaker c.mend.result _ _ (λ stop holds. mending_stop words held known stop asks holds) c.mend.ensures.stop
+
 pub returns-in-Ok-Run-clause-done : goal.returns-in-Ok-Run-clause-done
 returns-in-Ok-Run-clause-done g c =
     let held = g.F.NamedFiles.held c.args.files.now in
     let asks = rw c.in-Ok-Run.field-0-is at c.in-Ok-Run.ensures.job in
-    IfOk-weaker c.serve.result _ _ (λ ending served. inr (inr (inr (order_of c.in-Ok-Run.options, asks, served)))) (c.serve.ensures.done held)
+    IfOk-weaker c.serve.result _ _ (λ ending served. inr (inr (inr (inr (order_of c.in-Ok-Run.options, asks, served))))) (c.serve.ensures.done held)
 
 pub returns-in-Ok-Run-clause-stop : goal.returns-in-Ok-Run-clause-stop
 returns-in-Ok-Run-clause-stop g c =
