@@ -1,8 +1,10 @@
 """`mcv spool`: the records of a spool's file as text, beside a running proxy and without one."""
+import contextlib
 import os
 import subprocess
+import threading
 
-from parts import LIMIT, case, expect, free_port, one_pool, records, replayed, text_of
+from parts import LIMIT, case, expect, free_port, one_pool, records, replayed, text_of, wait_for
 
 # A key of each kind of byte that is written otherwise, and plain ones.
 KEYS = [b"a", b"x%", b"\xc3\xa9", b"b" * 250, b"~\x80\xff!"]
@@ -46,6 +48,42 @@ def records_are_shown_beside_a_running_proxy(machine):
     # The proxy has the file still, and writes into it.
     with mcv.client() as client:
         client.ask(b"delete a\r\n", b"NOT_FOUND\r\n")
+
+
+def deleting(mcv, name, stop):
+    """Deletes one key after the other until it is to stop."""
+    number = 0
+    with contextlib.suppress(OSError), mcv.client() as client:
+        while not stop.is_set():
+            client.ask(b"delete %s.%d\r\n" % (name, number), b"NOT_FOUND\r\n")
+            number += 1
+
+
+@case()
+def each_record_is_shown_whole_while_the_proxy_writes(machine):
+    """What is shown is each time the first lines of what the file has in the end, and more from time to time."""
+    spool, stop = machine.path("mcv.spool"), threading.Event()
+    mcv = machine.mcv(one_pool([text_of("127.0.0.1", free_port())]))
+    threads = [threading.Thread(target=deleting, args=(mcv, b"client%d" % n, stop)) for n in range(4)]
+    for thread in threads:
+        thread.start()
+    try:
+        wait_for(lambda: records(spool), "a first record")
+        shown = [mcv_spool(machine, spool) for _ in range(40)]
+    finally:
+        stop.set()
+        for thread in threads:
+            thread.join()
+    lines = listed(spool, False).split(b"\n")
+    counts = []
+    for status, text, errors in shown:
+        expect((status, errors), (0, b""))
+        *found, last = text.split(b"\n")[:-1]
+        expect(found, lines[: len(found)])
+        expect(last, b"records %d pending %d" % (len(found), len(found)))
+        counts.append(len(found))
+    expect(counts, sorted(counts), "counts of records")
+    expect(counts[0] < counts[-1], True, "records that were added meanwhile")
 
 
 @case()
