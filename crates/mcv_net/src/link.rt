@@ -5,7 +5,7 @@ ghost use Rattle.std.specs.Arc.{arc_value};
 ghost use Rattle.mcv_text.specs.Answer.{line_end};
 ghost use Rattle.mcv_text.specs.Leg.{leg_text, leg_value};
 ghost use Rattle.mcv_net.specs.Exchange.{AnswersProbe, SpellsReply};
-ghost use Rattle.mcv_net.specs.Legs.{AnswersLeg, BeginsLeg, link_fault};
+ghost use Rattle.mcv_net.specs.Legs.{AnswersLeg, BeginsLeg, Probes, link_fault};
 ghost use Rattle.mcv_net.specs.Connections.{AsksAnew, AsksOver, Begins, Finishes, GoesOn, Sends, kept_behind};
 
 use crate::connection::Connection;
@@ -270,7 +270,9 @@ impl<D: Dial, N: Notices> Link for TcpLink<D, N> {
         }
     }
 
-    fn probe(&mut self, _pass: &Pass) -> Result<(), LinkFault> {
+    fn probe(&mut self, _pass: &Pass) -> Result<(), LinkFault>
+        ensures { Probes D.Stream.contents D.Stream.remaining self.old.kept result self.new.kept }
+    {
         match self.ask_version() {
             Ok(()) => Ok(()),
             Err(loss) => Err(fault_of(loss)),

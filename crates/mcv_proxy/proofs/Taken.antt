@@ -2,7 +2,7 @@
 use Rattle.std.proofs.Common.{◌≡◌, ◌∙◌, ◌+◌, ◌<◌, ◌≤◌, ◌++◌, ◌∷◌, [], ℕ, List, Option, None, Some, Result, Ok, Err, ap, get_or, length, map, refl, sym, subst, take, arith}
 use Rattle.std.specs.Prelude.{IfOk, IfSome}
 use Rattle.std.proofs.lemmas.List.{length_push, map_push, take_more, take_all}
-use Rattle.std.proofs.lemmas.List.Elements.{All-nil, All-push}
+use Rattle.std.proofs.lemmas.List.Elements.{All-nil, All-push, Contains-get_or}
 use Rattle.mcv_base.specs.Reply.{part_value}
 use Rattle.mcv_base.specs.declared.request.CallId.{CallId}
 use Rattle.mcv_core.specs.CoreView.{CoreView}
@@ -12,7 +12,7 @@ use Rattle.mcv_core.specs.declared.fault.CoreFault.TheVariants.{NoSuchCall}
 use Rattle.mcv_hub.specs.Events.{IsReceived}
 use Rattle.mcv_hub.specs.State.{HistoryKeepsDeletes, HubView, IsCallOf, IsOf, Replies}
 use Rattle.mcv_hub.specs.declared.seat.TakenReply.{TakenReply}
-use Rattle.mcv_proxy.specs.Desk.{AreTaken, WasTaken}
+use Rattle.mcv_proxy.specs.Desk.{AreTaken, WasMissing, WasTaken}
 
 -- by what the hub says of a reply that it hands out
 was_taken : (start : CoreView) (v : HubView) (call : CallId) (t : TakenReply) → IsOf start v → HistoryKeepsDeletes (core_view v.core) v.history → IsReceived v call t → WasTaken start t
@@ -42,7 +42,7 @@ one_more_call calls done d taken t within of so_far =
 
 -- none so far
 pub none_taken : (start : CoreView) (calls : List CallId) (taken : List TakenReply) → taken ≡ [] → AreTaken start calls 0 None taken
-none_taken start calls taken e = subst (AreTaken start calls 0 None) (sym e) (record { within = omega arith; most = omega arith; each = All-nil (WasTaken start); all = λ _. refl; stranger = tt })
+none_taken start calls taken e = subst (AreTaken start calls 0 None) (sym e) (record { within = omega arith; most = omega arith; each = All-nil (WasTaken start); all = λ _. refl; stranger = tt; missing = tt })
 
 -- and one more
 pub one_more_taken : (start : CoreView) (calls : List CallId) (done : ℕ) (missed : Option CoreFault) (d : CallId) (taken after : List TakenReply) (t : TakenReply) → done < length calls → t.receipt.call ≡ get_or calls done d
@@ -54,12 +54,20 @@ one_more_taken start calls done missed d taken after t within of e was h =
       each = All-push (WasTaken start) taken t h.each was;
       all = λ m. one_more_call calls done d taken t within of (h.all m);
       stranger = h.stranger;
+      missing = h.missing;
     })
 
 -- one that won't come
-pub one_missed : (start : CoreView) (calls : List CallId) (done : ℕ) (missed : Option CoreFault) (fault : CoreFault) (taken : List TakenReply) → done < length calls → fault ≡ NoSuchCall → AreTaken start calls done missed taken → AreTaken start calls (done + 1) (Some fault) taken
-one_missed start calls done missed fault taken within is h =
-    record { within = omega arith; most = omega (arith, h.most); each = h.each; all = λ n. absurd (some n); stranger = is }
+pub one_missed : (start : CoreView) (calls : List CallId) (done : ℕ) (missed : Option CoreFault) (d : CallId) (fault : CoreFault) (taken : List TakenReply) → done < length calls → fault ≡ NoSuchCall → WasMissing start (get_or calls done d) → AreTaken start calls done missed taken → AreTaken start calls (done + 1) (Some fault) taken
+one_missed start calls done missed d fault taken within is was h =
+    record {
+      within = omega arith;
+      most = omega (arith, h.most);
+      each = h.each;
+      all = λ n. absurd (some n);
+      stranger = is;
+      missing = record { call = get_or calls done d; one = Contains-get_or calls done d within; was = was };
+    }
   where
     some : Some fault ≡ None → ⊥
     some n = cc

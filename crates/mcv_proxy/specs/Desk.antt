@@ -1,6 +1,6 @@
 -- What a desk over a hub answers, by the replies that it took of the hub (own).
-use Rattle.std.specs.Prelude.{◌≡◌, ◌≢◌, ◌+◌, ◌≤◌, ◌++◌, ◌∷◌, ℕ, List, [], Option, None, Some, Result, IfOk, IfErr, IfSome, true, ⊤, fold, length, map, nat_le, option_map, slice_get, take}
-use Rattle.std.specs.List.{All, filter}
+use Rattle.std.specs.Prelude.{◌≡◌, ◌≢◌, ◌⊎◌, ◌+◌, ◌≤◌, ◌++◌, ◌∷◌, ℕ, List, [], Option, None, Some, Result, Ok, IfOk, IfErr, IfSome, true, ⊤, fold, length, map, nat_le, option_map, slice_get, take}
+use Rattle.std.specs.List.{All, Contains, filter}
 use Rattle.mcv_base.specs.Key.{IsCut, IsKeyFault, is_key_word}
 use Rattle.mcv_base.specs.Reply.{ReplyValue, part_value}
 use Rattle.mcv_base.specs.declared.key.KeyFault.{KeyFault}
@@ -18,6 +18,7 @@ use Rattle.mcv_hub.specs.declared.seat.TakenReply.{TakenReply}
 use Rattle.mcv_pools.specs.Hash.{fnv_index}
 use Rattle.mcv_route.specs.Places.{route_of_prefix}
 use Rattle.mcv_route.specs.Routes.{RoutesValue}
+use Rattle.mcv_proxy.specs.Events.{Begins}
 use Rattle.mcv_session.specs.Desk.{keys_of}
 use Rattle.mcv_session.specs.declared.desk.DeskFault.{DeskFault}
 use Rattle.mcv_session.specs.declared.desk.DeskFault.TheVariants as answers
@@ -79,6 +80,32 @@ pub record WasRefused (opened : CoreView) (request : RequestValue) (key : ℕ) (
   pub its : request_value asked ≡ request
   pub cause : asking.IsUnbegun (core_view state.core) fnv_index asked key fault
 
+-- a call for the key of this number was begun, under this number
+pub record WasBegun (opened : CoreView) (request : RequestValue) (key : ℕ) (call : CallId) : Type 0 where
+  pub state : HubView
+  pub seen : WasSeen opened state
+  pub asked : Request
+  pub its : request_value asked ≡ request
+  pub after : HubView
+  pub begins : Begins state asked key (Ok call) after
+
+-- these calls were, for the first keys of the request, in their order
+pub data AreBegun (opened : CoreView) (request : RequestValue) : List CallId → Type 0 where
+  none : AreBegun opened request []
+  more : (calls : List CallId) (call : CallId) → AreBegun opened request calls → WasBegun opened request (length calls) call → AreBegun opened request (calls ++ call ∷ [])
+
+-- in a state of the hub the call didn't run
+pub record WasMissing (opened : CoreView) (call : CallId) : Type 0 where
+  pub state : HubView
+  pub seen : WasSeen opened state
+  pub none : (core_view state.core).rows.calls call.0 ≡ None
+
+-- one of the calls
+pub record HasMissing (opened : CoreView) (calls : List CallId) : Type 0 where
+  pub call : CallId
+  pub one : Contains calls call
+  pub was : WasMissing opened call
+
 -- ---- replies
 
 -- the reply was taken of the hub: in a state of it the call of the receipt ran, asked this, and had this reply, and the receipt
@@ -99,6 +126,7 @@ pub record AreTaken (opened : CoreView) (calls : List CallId) (done : ℕ) (miss
   pub each : All (WasTaken opened) taken
   pub all : missed ≡ None → map (λ t. t.receipt.call) taken ≡ take done calls
   pub stranger : IfSome missed (λ fault. fault ≡ NoSuchCall)
+  pub missing : IfSome missed (λ fault. HasMissing opened calls)
 
 -- the reply is for the key of this number: its call asked the operation of the request, of the key's route and rest
 pub record IsFor (r : RoutesValue) (request : RequestValue) (key : ℕ) (t : TakenReply) : Type 0 where
@@ -123,10 +151,11 @@ abbrev pub IsUnbegun : CoreView → RequestValue → ℕ → CoreFault → Type 
 IsUnbegun opened request key Memory = ⊤
 IsUnbegun opened request key fault = WasRefused opened request key fault
 
--- why the request isn't answered: no call is begun for the first key behind those of the replies, or a call or a reply is a stranger
-abbrev pub IsUnanswered : CoreView → RequestValue → List TakenReply → CoreFault → Type 0
-IsUnanswered opened request taken NoSuchCall = ⊤
-IsUnanswered opened request taken fault = AreFor opened.routes request taken × IsUnbegun opened request (length taken) fault
+-- why the request isn't answered by these calls and replies: one of the calls didn't run when its reply was to be taken, or the
+-- replies aren't for the keys; or no call is begun for the first key behind those of the replies
+abbrev pub IsUnanswered : CoreView → RequestValue → List CallId → List TakenReply → CoreFault → Type 0
+IsUnanswered opened request calls taken NoSuchCall = HasMissing opened calls ⊎ (AreFor opened.routes request taken → ⊥)
+IsUnanswered opened request calls taken fault = AreFor opened.routes request taken × IsUnbegun opened request (length taken) fault
 
 -- what a client is answered for a fault of the core
 abbrev pub desk_fault : CoreFault → DeskFault
@@ -141,10 +170,10 @@ desk_fault ClockBack = answers.Busy
 desk_fault Memory = answers.Memory
 desk_fault NoSuchCall = answers.Busy
 
-pub record IsFaultOf (opened : CoreView) (request : RequestValue) (taken : List TakenReply) (fault : DeskFault) : Type 0 where
+pub record IsFaultOf (opened : CoreView) (request : RequestValue) (calls : List CallId) (taken : List TakenReply) (fault : DeskFault) : Type 0 where
   pub cause : CoreFault
   pub is : fault ≡ desk_fault cause
-  pub why : IsUnanswered opened request taken cause
+  pub why : IsUnanswered opened request calls taken cause
 
 -- the receipts that are kept once a reply was taken: those of earlier chapters go, and its own is the last
 abbrev pub with_receipt : List Receipt → TakenReply → List Receipt
@@ -156,15 +185,16 @@ pub record DeskView : Type 0 where
   pub begun : ℕ
   pub taken : ℕ
 
--- what the desk of the hub that was opened so does at a request: it begins calls, takes replies of the hub and keeps their
--- receipts, and answers by these replies, or why not
+-- what the desk of the hub that was opened so does at a request: it begins calls for its keys, takes replies of the hub and keeps
+-- their receipts, and answers by these replies, one of each call, or why not
 pub record Asks (opened : CoreView) (before : DeskView) (request : RequestValue) (answer : Result (List ReplyValue) DeskFault) (after : DeskView) : Type 0 where
-  pub calls : ℕ
+  pub calls : List CallId
   pub taken : List TakenReply
+  pub begins : AreBegun opened request calls
   pub each : All (WasTaken opened) taken
   pub kept : after.receipts ≡ fold with_receipt before.receipts taken
-  pub begun : after.begun ≡ before.begun + calls
+  pub begun : after.begun ≡ before.begun + length calls
   pub counted : after.taken ≡ before.taken + length taken
-  pub most : length taken ≤ calls
-  pub answered : IfOk answer (λ replies. IsAnsweredBy opened.routes request taken replies × (calls ≡ length taken))
-  pub refused : IfErr answer (IsFaultOf opened request taken)
+  pub most : length taken ≤ length calls
+  pub answered : IfOk answer (λ replies. IsAnsweredBy opened.routes request taken replies × (map (λ t. t.receipt.call) taken ≡ calls))
+  pub refused : IfErr answer (IsFaultOf opened request calls taken)

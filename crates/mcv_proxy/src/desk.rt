@@ -5,7 +5,7 @@ ghost use Rattle.std.specs.Arc.{arc_value};
 ghost use Rattle.std.specs.List.{All, filter};
 ghost use Rattle.mcv_text.specs.Request.{request_value};
 ghost use Rattle.mcv_session.specs.Desk.{keys_of};
-ghost use Rattle.mcv_proxy.specs.Desk.{AreFor, AreTaken, Asks, IsFor, IsRouted, IsUnanswered, IsUnrouted, WasRefused, WasTaken, desk_fault, with_receipt, word_at};
+ghost use Rattle.mcv_proxy.specs.Desk.{AreBegun, AreFor, AreTaken, Asks, HasMissing, IsFor, IsRouted, IsUnanswered, IsUnrouted, WasBegun, WasMissing, WasRefused, WasTaken, desk_fault, with_receipt, word_at};
 
 use crate::agenda::Agenda;
 use crate::errands::Errands;
@@ -226,6 +226,7 @@ fn begin_in_chapter<'a, B: HubLedger, T: Ledger, R: Wait + Clock>(
     request: &Arc<Request>,
     key: usize,
 ) -> (Guard<'a, B, T>, Result<CallId, CoreFault>)
+    ensures began { IfOk result.1 (WasBegun B.opened (request_value (arc_value request.now)) key) }
     ensures err { IfErr result.1 (WasRefused B.opened (request_value (arc_value request.now)) key) }
     ensures begun { OnOk result.1 (seat.new.begun.amount ≡ seat.old.begun.amount + 1) }
     ensures unbegun { OnErr result.1 (seat.new.begun.amount ≡ seat.old.begun.amount) }
@@ -259,6 +260,7 @@ fn begin_each<'a, B: HubLedger, T: Ledger, R: Wait + Clock>(
 ) -> (Guard<'a, B, T>, Result<(), CoreFault>)
     requires empty { calls.old.items ≡ [] }
     requires room { count ≤ vec_capacity calls.old }
+    ensures began { AreBegun B.opened (request_value (arc_value request.now)) calls.new.items }
     ensures all { OnOk result.1 (vec_len calls.new ≡ count) }
     ensures most { vec_len calls.new ≤ count }
     ensures begun { seat.new.begun.amount ≡ seat.old.begun.amount + vec_len calls.new }
@@ -290,6 +292,7 @@ fn take_one<B: HubLedger, T: Ledger>(
     ensures refused { OnErr result (seat.new.taken.amount ≡ seat.old.taken.amount) }
     ensures begun { seat.new.begun.amount ≡ seat.old.begun.amount }
     ensures err { IfErr result (λ fault. fault ≡ CoreFault.NoSuchCall) }
+    ensures missing { OnErr result (WasMissing B.opened call) }
 {
     guard.is_opened();
     guard.deletes_are_kept();
@@ -466,6 +469,7 @@ impl<'a, B: HubLedger, T: Ledger, L: Link, W: Watch, R: Wait + Clock> Caller<'a,
     ) -> Result<(), CoreFault>
         requires empty { calls.old.items ≡ [] }
         requires room { count ≤ vec_capacity calls.old }
+        ensures began { AreBegun B.opened (request_value (arc_value request.now)) calls.new.items }
         ensures all { OnOk result (vec_len calls.new ≡ count) }
         ensures most { vec_len calls.new ≤ count }
         ensures begun { self.new.seat.begun.amount ≡ self.old.seat.begun.amount + vec_len calls.new }
@@ -524,6 +528,7 @@ impl<'a, B: HubLedger, T: Ledger, L: Link, W: Watch, R: Wait + Clock> Caller<'a,
         ensures counted { self.new.seat.taken.amount ≡ self.old.seat.taken.amount + vec_len taken.new }
         ensures begun { self.new.seat.begun.amount ≡ self.old.seat.begun.amount }
         ensures err { IfErr result (λ fault. fault ≡ CoreFault.NoSuchCall) }
+        ensures missing { OnErr result (HasMissing B.opened calls.now) }
     {
         let mut progress = Progress {
             done: 0,
@@ -559,7 +564,8 @@ impl<'a, B: HubLedger, T: Ledger, L: Link, W: Watch, R: Wait + Clock> HubDesk<'a
         watch: W,
         turn_from: usize,
     ) -> HubDesk<'a, B, T, L, W, R>
-        ensures { result.kept.receipts.items ≡ [] }
+        ensures seat { result.caller.seat ≡ seat }
+        ensures receipts { result.kept.receipts.items ≡ [] }
     {
         HubDesk {
             caller: Caller {
@@ -604,10 +610,11 @@ impl<'a, B: HubLedger, T: Ledger, L: Link, W: Watch, R: Wait + Clock> HubDesk<'a
         ensures counted { self.new.caller.seat.taken.amount ≡ self.old.caller.seat.taken.amount + vec_len taken.new }
         ensures begun { self.new.caller.seat.begun.amount ≡ self.old.caller.seat.begun.amount + vec_len calls.new }
         ensures most { vec_len taken.new ≤ vec_len calls.new }
-        ensures all_begun { OnOk result (vec_len calls.new ≡ length (keys_of (request_value (arc_value request.now)))) }
+        ensures began { AreBegun B.opened (request_value (arc_value request.now)) calls.new.items }
+        ensures of_calls { OnOk result (map (λ t. t.receipt.call) taken.new.items ≡ calls.new.items) }
         ensures for_keys { OnOk result (AreFor B.opened.routes (request_value (arc_value request.now)) taken.new.items) }
         ensures one_each { OnOk result (vec_len taken.new ≡ length (keys_of (request_value (arc_value request.now)))) }
-        ensures err { IfErr result (IsUnanswered B.opened (request_value (arc_value request.now)) taken.new.items) }
+        ensures err { IfErr result (IsUnanswered B.opened (request_value (arc_value request.now)) calls.new.items taken.new.items) }
     {
         let count = key_count(request);
         let hub = self.caller.hub;

@@ -1,6 +1,6 @@
 //! Events on the borrowed state, and whom they let go on.
 
-ghost use Rattle.std.specs.Prelude.{◌≡◌, ◌↔◌, ◌+◌, true, Err, IfErr, OnErr, OnOk};
+ghost use Rattle.std.specs.Prelude.{◌≡◌, ◌↔◌, ◌+◌, true, Err, IfErr, IfOk, OnErr, OnOk};
 ghost use Rattle.std.specs.Arc.{arc_value};
 ghost use Rattle.mcv_pools.specs.Hash.{fnv_index};
 ghost use Rattle.mcv_core.specs.Events.{IsAnsweredLeg, IsBegun, IsRefusedLeg, IsSpooledLeg};
@@ -8,7 +8,7 @@ ghost use Rattle.mcv_core.specs.View.{core_view};
 ghost use Rattle.mcv_core.specs.declared.fault.CoreFault.TheVariants.{ChapterFull as FullChapter};
 ghost use Rattle.mcv_hub.specs.Events.{IsHubEvent};
 ghost use Rattle.mcv_text.specs.Request.{request_value};
-ghost use Rattle.mcv_proxy.specs.Desk.{WasRefused};
+ghost use Rattle.mcv_proxy.specs.Desk.{WasBegun, WasRefused};
 ghost use Rattle.mcv_proxy.specs.Events.{IsAttempt, IsLoss};
 ghost use Rattle.mcv_proxy.specs.Steps.{IsLanding};
 
@@ -107,6 +107,7 @@ fn begin<B: HubLedger, T: Ledger>(
     ensures begun { OnOk result (seat.new.begun.amount ≡ seat.old.begun.amount + 1) }
     ensures unbegun { OnErr result (seat.new.begun.amount ≡ seat.old.begun.amount) }
     ensures taken { seat.new.taken.amount ≡ seat.old.taken.amount }
+    ensures began { IfOk result (WasBegun B.opened (request_value (arc_value request)) key) }
     ensures refused { IfErr result (WasRefused B.opened (request_value (arc_value request)) key) }
 {
     guard.is_opened();
@@ -130,6 +131,7 @@ fn begin_shared<B: HubLedger, T: Ledger>(
     ensures begun { OnOk result (seat.new.begun.amount ≡ seat.old.begun.amount + 1) }
     ensures unbegun { OnErr result (seat.new.begun.amount ≡ seat.old.begun.amount) }
     ensures taken { seat.new.taken.amount ≡ seat.old.taken.amount }
+    ensures began { IfOk result (WasBegun B.opened (request_value (arc_value request.now)) key) }
     ensures refused { IfErr result (WasRefused B.opened (request_value (arc_value request.now)) key) }
 {
     guard.is_opened();
@@ -173,6 +175,7 @@ pub(crate) fn begin_in_turn<B: HubLedger, T: Ledger>(
     ensures begun { OnOk result.begun (seat.new.begun.amount ≡ seat.old.begun.amount + 1) }
     ensures unbegun { OnErr result.begun (seat.new.begun.amount ≡ seat.old.begun.amount) }
     ensures taken { seat.new.taken.amount ≡ seat.old.taken.amount }
+    ensures began { IfOk result.begun (WasBegun B.opened (request_value (arc_value request.now)) key) }
     ensures refused { IfErr result.begun (WasRefused B.opened (request_value (arc_value request.now)) key) }
 {
     let begun = begin_shared(alloc, agenda, guard, seat, request, key);

@@ -1,4 +1,4 @@
-use Rattle.mcv_proxy.proofs.Books.{no_call, refused_counts, taken_begins, taken_counts, untaken_counts}
+use Rattle.mcv_proxy.proofs.Books.{missing_call, no_call, refused_counts, taken_begins, taken_counts, untaken_counts}
 use Rattle.mcv_proxy.proofs.Taken.{found_call, found_was_taken}
 use Rattle.mcv_proxy.proofs.desk.take_one.Goals as goal
 
@@ -22,3 +22,6 @@ returns-clause-begun g c = taken_begins c.args.call c.args.guard.now c.take_repl
 
 pub returns-clause-err : goal.returns-clause-err
 returns-clause-err g c = no_call c.args.call c.args.guard.now c.take_reply.new.self c.take_reply.result c.take_reply.ensures.event
+
+pub returns-clause-missing : goal.returns-clause-missing
+returns-clause-missing g c = missing_call c.args.call c.args.guard.now c.take_reply.new.self g.B.HubLedger.opened c.take_reply.result c.is_opened.ensures c.deletes_are_kept.ensures c.take_reply.ensures.event

@@ -22,7 +22,7 @@ loop-done-preserved g c =
             begun = search rules;
           }
       | in-Err w ↦
-          let one = one_missed start calls n c.loop-done.missed w.in-Err.fault before c.loop-done-test.true w.in-Err.ensures.err c.loop-done.invariant.so_far in
+          let one = one_missed start calls n c.loop-done.missed _ w.in-Err.fault before c.loop-done-test.true w.in-Err.ensures.err w.in-Err.ensures.missing c.loop-done.invariant.so_far in
           record {
             so_far = subst (λ m. AreTaken start calls (n + 1) m after) (sym w.missed-is) (subst (λ v. AreTaken start calls (n + 1) (Some w.in-Err.fault) v.items) (sym w.taken-is) one);
             room = search rules;

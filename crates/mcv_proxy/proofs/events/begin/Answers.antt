@@ -1,6 +1,6 @@
 use Rattle.std.specs.Arc.{arc_value}
 use Rattle.mcv_pools.specs.Hash.{fnv_index}
-use Rattle.mcv_proxy.proofs.Books.{begun_counts, begun_takes, unbegun_counts, was_refused}
+use Rattle.mcv_proxy.proofs.Books.{begun_counts, begun_takes, unbegun_counts, was_begun, was_refused}
 use Rattle.mcv_proxy.proofs.events.begin.Goals as goal
 
 pub returns-clause-begun : goal.returns-clause-begun
@@ -14,3 +14,6 @@ returns-clause-taken g c = begun_takes fnv_index (arc_value c.args.request) c.ar
 
 pub returns-clause-refused : goal.returns-clause-refused
 returns-clause-refused g c = was_refused g.B.HubLedger.opened (arc_value c.args.request) c.args.key c.args.guard.now c.begin-begun.new.self c.begin-begun.result c.is_opened.ensures c.deletes_are_kept.ensures c.begin-begun.ensures.event
+
+pub returns-clause-began : goal.returns-clause-began
+returns-clause-began g c = was_begun g.B.HubLedger.opened (arc_value c.args.request) c.args.key c.args.guard.now c.begin-begun.new.self c.begin-begun.result c.is_opened.ensures c.deletes_are_kept.ensures c.begin-begun.ensures.event

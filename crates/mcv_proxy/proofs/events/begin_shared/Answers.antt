@@ -1,5 +1,5 @@
 use Rattle.std.proofs.Common.{Err, subst}
-use Rattle.std.specs.Prelude.{IfErr}
+use Rattle.std.specs.Prelude.{IfErr, IfOk}
 use Rattle.std.specs.Arc.{arc_value}
 use Rattle.mcv_base.specs.declared.request.Request.{Request}
 use Rattle.mcv_core.specs.Events.{IsBegun}
@@ -8,7 +8,7 @@ use Rattle.mcv_core.specs.declared.fault.CoreFault.TheVariants.{Memory}
 use Rattle.mcv_hub.specs.Events.{IsHubEvent}
 use Rattle.mcv_pools.specs.Hash.{fnv_index}
 use Rattle.mcv_proxy.proofs.Books.{without_memory, was_refused}
-use Rattle.mcv_proxy.specs.Desk.{WasRefused}
+use Rattle.mcv_proxy.specs.Desk.{WasBegun, WasRefused}
 use Rattle.mcv_text.specs.Request.{request_value}
 use Rattle.mcv_proxy.proofs.events.begin_shared.Goals as goal
 
@@ -28,3 +28,8 @@ returns-in-Ok-clause-refused g c =
 pub returns-in-Err-clause-refused : goal.returns-in-Err-clause-refused
 returns-in-Err-clause-refused g c =
     was_refused g.B.HubLedger.opened (arc_value c.args.request.now) c.args.key c.args.guard.now c.args.guard.now (Err Memory) c.is_opened.ensures c.deletes_are_kept.ensures (without_memory c.args.guard.now fnv_index (arc_value c.args.request.now) c.args.key)
+
+pub returns-in-Ok-clause-began : goal.returns-in-Ok-clause-began
+returns-in-Ok-clause-began g c =
+    let P : Request → Type 0 = λ r. IfOk c.begin.result (WasBegun g.B.HubLedger.opened (request_value r) c.args.key) in
+    subst P c.in-Ok.ensures c.begin.ensures.began
