@@ -4,7 +4,7 @@
 
 use mcv_check::Accepted;
 use mcv_command::{
-    Ending, Proxy, Stop, SystemFiles, exit_status, given_words, reads_configuration, run_words,
+    Ending, Proxy, Stop, SystemFiles, exit_status, given_words, is_quiet, reads_configuration, run_words,
     second_line,
 };
 use mcv_input::{RunFault, read_at_most};
@@ -142,7 +142,11 @@ fn judge<R: AllocGlobal + Print + Files>(
     let mut rest = input;
     let files = SystemFiles { system: rt };
     let ended = run_words(alloc, words, &files, orders, &mut rest, &mut io::writer(rt));
-    let more = second_line(alloc, words, input, &ended);
+    let more = if is_quiet(words) {
+        None
+    } else {
+        second_line(alloc, input, &ended).unwrap_or(None)
+    };
     End { ended, more }
 }
 

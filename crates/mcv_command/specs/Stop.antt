@@ -1,10 +1,7 @@
 -- How the program ends: its exit status, and what it says on standard error where it stops early (own).
-use Rattle.std.specs.Prelude.{◌≡◌, ℕ, ◌++◌, Result, Ok, Err, codes}
+use Rattle.std.specs.Prelude.{ℕ, ◌++◌, Result, Ok, Err, codes}
 use Rattle.clap.specs.Words.{Text}
-use Rattle.mcv_faults.specs.FaultLine.{IsDetailOf}
 use Rattle.mcv_input.specs.Fault.{run_fault_status, run_fault_text}
-use Rattle.mcv_input.specs.declared.fault.RunFault.TheVariants as run_faults
-use Rattle.mcv_names.specs.declared.fault.ConfigFault.{ConfigFault}
 use Rattle.mcv_command.specs.declared.stop.Ending.{Ending}
 use Rattle.mcv_command.specs.declared.stop.Ending.TheVariants.{Done, Lost}
 use Rattle.mcv_command.specs.declared.stop.Stop.{Stop}
@@ -28,9 +25,3 @@ ending_status Lost = 3
 abbrev pub ended_status : Result Ending Stop → ℕ
 ended_status (Ok ending) = ending_status ending
 ended_status (Err stop) = stop_status stop
-
--- ---- the second line
-
--- the program ended with a fault of the configuration, which is the input, and the line says more of it
-abbrev pub IsSecondLine : (input : Text) → Result Ending Stop → (line : Text) → Type 0
-IsSecondLine input ended line = (fault : ConfigFault) × (ended ≡ Err (Run (run_faults.Config fault))) × IsDetailOf input fault line

@@ -1,73 +1,88 @@
 //! What the program says on standard error behind the line of a fault of the configuration.
 
-ghost use Rattle.std.specs.Prelude.{◌≡◌, Err, IfSome, string_bytes};
-ghost use Rattle.mcv_command.specs.Stop.{IsSecondLine};
-ghost use Rattle.mcv_command.specs.declared.stop.Stop.TheVariants.{Run};
+ghost use Rattle.std.specs.Prelude.{◌≡◌, ℕ, List, true, IfOk, map, option_map, string_bytes};
+ghost use Rattle.std.specs.List.{list_any};
+ghost use Rattle.std.specs.Str.Lossy.{utf8_lossy};
+ghost use Rattle.mcv_command.specs.Detail.{AsksOfConfiguration, IsSecondLine, config_fault, ended_fault, is_quiet_word};
 ghost use Rattle.mcv_faults.specs.FaultLine.{IsDetailOf};
-ghost use Rattle.mcv_input.specs.declared.fault.RunFault.TheVariants.{Config};
 
 use crate::stop::{Ending, Stop};
 use mcv_faults::fault_detail;
 use mcv_input::RunFault;
 use mcv_names::ConfigFault;
 use mcv_words::{Job, read_words};
-use std::alloc::Global;
+use std::alloc::{AllocError, Global};
 
 /// Whether the words ask for something of a configuration alone, which is then the whole input.
-pub fn reads_configuration(alloc: Global, words: &[&str]) -> bool {
-    matches!(
-        read_words(alloc, words),
-        Ok(Job::Check { .. } | Job::Draw { .. } | Job::Run { .. })
-    )
+pub fn reads_configuration(alloc: Global, words: &[&str]) -> bool
+    ensures { result ≡ true → AsksOfConfiguration (map (λ w. w.now) words.entry.now) }
+{
+    match read_words(alloc, words) {
+        Ok(Job::Check { .. }) => true,
+        Ok(Job::Draw { .. }) => true,
+        Ok(Job::Run(_)) => true,
+        Ok(Job::Legs { .. }) => false,
+        Err(_) => false,
+    }
 }
 
 /// Whether the words ask for one line in place of two.
-fn is_quiet(words: &[&str]) -> bool {
-    words.iter().any(|word| matches!(*word, "-q" | "--quiet"))
+pub fn is_quiet(words: &[&str]) -> bool
+    ensures { result ≡ list_any is_quiet_word (map (λ w. w.now) words.entry.now) }
+{
+    words.iter().any(|word| is_quiet_word(*word))
 }
 
-/// The second line of a fault of the configuration, which is the input: its name, the text at fault, and where it stands.
-/// None for another end, and where the words ask for quiet.
+fn is_quiet_word(word: &str) -> bool
+    ensures { result ≡ is_quiet_word word.now }
+{
+    word == "-q" || word == "--quiet"
+}
+
+/// The second line of a fault of the configuration, which is the input: its name, the text at fault, and where that stands.
+/// None for another end.
 pub fn second_line(
     alloc: Global,
-    words: &[&str],
     input: &[u8],
     ended: &Result<Ending, Stop>,
-) -> Option<String>
-    ensures { IfSome result (λ line. IsSecondLine input.now ended.now (string_bytes line)) }
+) -> Result<Option<String>, AllocError>
+    ensures { IfOk result (λ line. IsSecondLine input.now (ended_fault ended.now) (option_map string_bytes line)) }
 {
-    if is_quiet(words) {
-        return None;
+    match fault_of(ended) {
+        Some(fault) => Ok(Some(detail_of(alloc, input, fault)?)),
+        None => Ok(None),
     }
-    let fault = fault_of(ended)?;
-    detail_of(alloc, input, fault)
 }
 
 /// The fault of the configuration with which the program ended.
 fn fault_of(ended: &Result<Ending, Stop>) -> Option<&ConfigFault>
-    ensures { IfSome result (λ fault. ended.now ≡ Err (Run (Config fault.now))) }
+    ensures { option_map (λ fault. fault.now) result ≡ ended_fault ended.now }
 {
     match ended {
-        Err(Stop::Run(RunFault::Config(fault))) => Some(fault),
-        _ => None,
+        Ok(_) => None,
+        Err(Stop::BadLine) => None,
+        Err(Stop::Run(fault)) => config_fault(fault),
     }
 }
 
-fn detail_of(alloc: Global, input: &[u8], fault: &ConfigFault) -> Option<String>
-    ensures { IfSome result (λ line. IsDetailOf input.now fault.now (string_bytes line)) }
+fn config_fault(fault: &RunFault) -> Option<&ConfigFault>
+    ensures { option_map (λ fault. fault.now) result ≡ config_fault fault.now }
 {
-    match fault_detail(alloc, input, fault) {
-        Ok(line) => text_of(line),
-        Err(_) => None,
+    match fault {
+        RunFault::Line => None,
+        RunFault::NoRoute => None,
+        RunFault::Config(fault) => Some(fault),
+        RunFault::CertificateText(_) => None,
+        RunFault::Certificate(_) => None,
+        RunFault::Window => None,
+        RunFault::Memory => None,
+        RunFault::Device => None,
     }
 }
 
-/// Bytes as a text; None where they are none.
-fn text_of(line: Vec<u8>) -> Option<String>
-    ensures { IfSome result (λ text. string_bytes text ≡ line.items) }
+fn detail_of(alloc: Global, input: &[u8], fault: &ConfigFault) -> Result<String, AllocError>
+    ensures { IfOk result (λ text. (line : List ℕ) × IsDetailOf input.now fault.now line × (string_bytes text ≡ utf8_lossy line)) }
 {
-    match String::from_utf8(line) {
-        Ok(text) => Some(text),
-        Err(_) => None,
-    }
+    let line = fault_detail(alloc, input, fault)?;
+    String::from_utf8_lossy(alloc, line.as_slice())
 }

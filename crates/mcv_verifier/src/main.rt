@@ -4,7 +4,7 @@
 
 use mcv_check::Accepted;
 use mcv_command::{
-    Ending, Proxy, Stop, SystemFiles, exit_status, given_words, reads_configuration, run_words,
+    Ending, Proxy, Stop, SystemFiles, exit_status, given_words, is_quiet, reads_configuration, run_words,
     second_line,
 };
 use mcv_input::{RunFault, read_at_most};
@@ -99,6 +99,10 @@ fn judge<R: AllocGlobal + Print + Files>(rt: &R, words: &[&str], input: &[u8]) -
         &mut rest,
         &mut io::writer(rt),
     );
-    let more = second_line(alloc, words, input, &ended);
+    let more = if is_quiet(words) {
+        None
+    } else {
+        second_line(alloc, input, &ended).unwrap_or(None)
+    };
     End { ended, more }
 }

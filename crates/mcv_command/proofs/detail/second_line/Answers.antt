@@ -1,5 +1,13 @@
-use Rattle.std.proofs.lemmas.Option.{IfSome_then}
+use Rattle.std.proofs.Common.{None, Option, Some, ap, refl, subst}
+use Rattle.std.specs.Prelude.{string_bytes}
+use Rattle.mcv_names.specs.declared.fault.ConfigFault.{ConfigFault}
+use Rattle.mcv_command.specs.Detail.{IsSecondLine}
 use Rattle.mcv_command.proofs.detail.second_line.Goals as goal
 
+pub returns-in-Some : goal.returns-in-Some
+returns-in-Some c =
+    let detail = c.in_ok-detail_of.ensures in
+    subst (λ (found : Option ConfigFault). IsSecondLine c.args.input.now found (Some (string_bytes c.in_ok-detail_of.field-0))) c.in-Some.ensures (detail.0, detail.1, ap Some detail.2)
+
 pub returns : goal.returns
-returns c = IfSome_then c.detail_of.result c.detail_of.ensures (λ line is. (c.in_ok-fault.fault.now, c.in_ok-fault.ensures, is))
+returns c = subst (λ (found : Option ConfigFault). IsSecondLine c.args.input.now found None) c.in-None.ensures refl
