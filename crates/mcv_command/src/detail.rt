@@ -3,7 +3,7 @@
 ghost use Rattle.std.specs.Prelude.{◌≡◌, ℕ, List, true, IfOk, map, option_map, string_bytes};
 ghost use Rattle.std.specs.List.{list_any};
 ghost use Rattle.std.specs.Str.Lossy.{utf8_lossy};
-ghost use Rattle.mcv_command.specs.Detail.{AsksOfConfiguration, IsSecondLine, config_fault, ended_fault, is_quiet_word};
+ghost use Rattle.mcv_command.specs.Detail.{AsksOfConfiguration, IsSecondLine, config_fault, ended_fault, is_of_configuration, is_quiet_word};
 ghost use Rattle.mcv_faults.specs.FaultLine.{IsDetailOf};
 
 use crate::stop::{Ending, Stop};
@@ -18,11 +18,20 @@ pub fn reads_configuration(alloc: Global, words: &[&str]) -> bool
     ensures { result ≡ true → AsksOfConfiguration (map (λ w. w.now) words.entry.now) }
 {
     match read_words(alloc, words) {
-        Ok(Job::Check { .. }) => true,
-        Ok(Job::Draw { .. }) => true,
-        Ok(Job::Run(_)) => true,
-        Ok(Job::Legs { .. }) => false,
+        Ok(job) => is_of_configuration(&job),
         Err(_) => false,
+    }
+}
+
+/// Whether a job is done on a configuration alone.
+fn is_of_configuration(job: &Job<'_>) -> bool
+    ensures { result ≡ is_of_configuration job.now }
+{
+    match job {
+        Job::Legs { .. } => false,
+        Job::Check { .. } => true,
+        Job::Draw { .. } => true,
+        Job::Run(_) => true,
     }
 }
 
