@@ -6,7 +6,6 @@ use Rattle.mcv_faults.specs.FaultLine.{IsDetailOf}
 use Rattle.mcv_input.specs.declared.fault.RunFault.{RunFault}
 use Rattle.mcv_input.specs.declared.fault.RunFault.TheVariants.{Certificate, CertificateText, Config, Device, Line, Memory, NoRoute, Window}
 use Rattle.mcv_names.specs.declared.fault.ConfigFault.{ConfigFault}
-use Rattle.mcv_words.specs.Words.{IsJobOf}
 use Rattle.mcv_words.specs.declared.words.Job.{Job}
 use Rattle.mcv_words.specs.declared.words.Job.TheVariants as jobs
 use Rattle.mcv_command.specs.declared.stop.Ending.{Ending}
@@ -14,15 +13,11 @@ use Rattle.mcv_command.specs.declared.stop.Stop.{Stop}
 use Rattle.mcv_command.specs.declared.stop.Stop.TheVariants.{BadLine, Run}
 
 -- the job is done on a configuration alone: `legs` has a request before it
-abbrev pub is_of_configuration : Job → Bool
-is_of_configuration (jobs.Legs at) = false
-is_of_configuration (jobs.Check cert options) = true
-is_of_configuration (jobs.Draw dot) = true
-is_of_configuration (jobs.Run options) = true
-
--- the words ask for such a job
-abbrev pub AsksOfConfiguration : List Text → Type 0
-AsksOfConfiguration words = (job : Job) × IsJobOf words job × (is_of_configuration job ≡ true)
+abbrev pub reads_configuration : Job → Bool
+reads_configuration (jobs.Legs at) = false
+reads_configuration (jobs.Check cert options) = true
+reads_configuration (jobs.Draw dot) = true
+reads_configuration (jobs.Run options) = true
 
 -- one of the flags that leave the second line out
 abbrev pub is_quiet_word : Text → Bool
