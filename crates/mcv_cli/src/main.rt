@@ -4,12 +4,12 @@
 
 use mcv_check::Accepted;
 use mcv_command::{
-    Ending, Proxy, Stop, SystemFiles, exit_status, given_words, is_quiet, reads_configuration, run_words,
-    second_line,
+    Ending, Proxy, Stop, SystemFiles, exit_status, given_words, is_quiet, reads_configuration,
+    run_words, second_line,
 };
 use mcv_input::{RunFault, read_at_most};
 use mcv_net::{NetFault, SpoolFiles, serve};
-use mcv_words::{RunOptions, Settings};
+use mcv_words::{RunOptions, Settings, read_words};
 use std::alloc::{AllocError, Global};
 use std::cell::Cell;
 use std::fs::Files;
@@ -115,7 +115,11 @@ fn read<R: Env + AllocGlobal + Input + Print + Files>(
     let words = given_words(rt)?;
     let texts: Vec<&str> = words.iter().map(|word| word.as_str()).collect(alloc)?;
     let texts = texts.as_slice();
-    if !reads_configuration(alloc, texts) {
+    let is_whole = match read_words(alloc, texts) {
+        Ok(job) => reads_configuration(&job),
+        Err(_) => false,
+    };
+    if !is_whole {
         let files = SystemFiles { system: rt };
         let ended = run_words(
             alloc,

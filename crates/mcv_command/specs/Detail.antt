@@ -1,21 +1,23 @@
 -- The line on standard error behind that of a fault of the configuration (own).
-use Rattle.std.specs.Prelude.{◌≡◌, ◌⊎◌, ◌||◌, Bool, Err, List, None, Ok, Option, Result, Some, bytes_eq, codes}
+use Rattle.std.specs.Prelude.{◌≡◌, ◌||◌, Bool, Err, List, None, Ok, Option, Result, Some, bytes_eq, codes, false, true}
 use Rattle.std.specs.Str.Lossy.{utf8_lossy}
 use Rattle.clap.specs.Words.{Text}
 use Rattle.mcv_faults.specs.FaultLine.{IsDetailOf}
 use Rattle.mcv_input.specs.declared.fault.RunFault.{RunFault}
 use Rattle.mcv_input.specs.declared.fault.RunFault.TheVariants.{Certificate, CertificateText, Config, Device, Line, Memory, NoRoute, Window}
 use Rattle.mcv_names.specs.declared.fault.ConfigFault.{ConfigFault}
-use Rattle.mcv_words.specs.Words.{AsksCheck, AsksDraw, AsksRun, RunOrder}
-use Rattle.mcv_words.specs.declared.options.CheckOptions.{CheckOptions}
+use Rattle.mcv_words.specs.declared.words.Job.{Job}
+use Rattle.mcv_words.specs.declared.words.Job.TheVariants as jobs
 use Rattle.mcv_command.specs.declared.stop.Ending.{Ending}
 use Rattle.mcv_command.specs.declared.stop.Stop.{Stop}
 use Rattle.mcv_command.specs.declared.stop.Stop.TheVariants.{BadLine, Run}
 
--- the words ask for a verdict, for a picture or for a run: the input is a configuration
-abbrev pub AsksOfConfiguration : List Text → Type 0
-AsksOfConfiguration words =
-    ((cert : Option Text) × (options : CheckOptions) × AsksCheck words cert options) ⊎ (((dot : Bool) × AsksDraw words dot) ⊎ ((order : RunOrder) × AsksRun words order))
+-- the job is done on a configuration alone: `legs` has a request before it
+abbrev pub reads_configuration : Job → Bool
+reads_configuration (jobs.Legs at) = false
+reads_configuration (jobs.Check cert options) = true
+reads_configuration (jobs.Draw dot) = true
+reads_configuration (jobs.Run options) = true
 
 -- one of the flags that leave the second line out
 abbrev pub is_quiet_word : Text → Bool

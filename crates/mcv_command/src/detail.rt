@@ -1,28 +1,27 @@
 //! What the program says on standard error behind the line of a fault of the configuration.
 
-ghost use Rattle.std.specs.Prelude.{◌≡◌, ℕ, List, true, IfOk, map, option_map, string_bytes};
+ghost use Rattle.std.specs.Prelude.{◌≡◌, ℕ, List, IfOk, map, option_map, string_bytes};
 ghost use Rattle.std.specs.List.{list_any};
 ghost use Rattle.std.specs.Str.Lossy.{utf8_lossy};
-ghost use Rattle.mcv_command.specs.Detail.{AsksOfConfiguration, IsSecondLine, config_fault, ended_fault, is_quiet_word};
+ghost use Rattle.mcv_command.specs.Detail.{IsSecondLine, config_fault, ended_fault, reads_configuration, is_quiet_word};
 ghost use Rattle.mcv_faults.specs.FaultLine.{IsDetailOf};
 
 use crate::stop::{Ending, Stop};
 use mcv_faults::fault_detail;
 use mcv_input::RunFault;
 use mcv_names::ConfigFault;
-use mcv_words::{Job, read_words};
+use mcv_words::Job;
 use std::alloc::{AllocError, Global};
 
-/// Whether the words ask for something of a configuration alone, which is then the whole input.
-pub fn reads_configuration(alloc: Global, words: &[&str]) -> bool
-    ensures { result ≡ true → AsksOfConfiguration (map (λ w. w.now) words.entry.now) }
+/// Whether a job is done on a configuration alone, which is then the whole input.
+pub fn reads_configuration(job: &Job<'_>) -> bool
+    ensures { result ≡ reads_configuration job.now }
 {
-    match read_words(alloc, words) {
-        Ok(Job::Check { .. }) => true,
-        Ok(Job::Draw { .. }) => true,
-        Ok(Job::Run(_)) => true,
-        Ok(Job::Legs { .. }) => false,
-        Err(_) => false,
+    match job {
+        Job::Legs { .. } => false,
+        Job::Check { .. } => true,
+        Job::Draw { .. } => true,
+        Job::Run(_) => true,
     }
 }
 

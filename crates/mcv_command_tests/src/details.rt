@@ -2,6 +2,7 @@
 
 use mcv_command::{Ending, Stop, reads_configuration, second_line};
 use mcv_input::{RunFault, read_routes};
+use mcv_words::read_words;
 use std::alloc::Global;
 use std::process::Abort;
 
@@ -34,9 +35,16 @@ fn more_is_said_of_faults(rt: HostRuntime) {
     check_detail(&rt, "{\"route\": \"NullRoute\"}", "");
 }
 
+fn reads(alloc: Global, words: &[&str]) -> bool {
+    match read_words(alloc, words) {
+        Ok(job) => reads_configuration(&job),
+        Err(_) => false,
+    }
+}
+
 #[test]
 fn requests_are_no_configurations(rt: HostRuntime) {
-    assert!(rt; reads_configuration(rt.alloc(), &["mcv", "check"]));
-    assert!(rt; !reads_configuration(rt.alloc(), &["mcv", "legs"]));
-    assert!(rt; !reads_configuration(rt.alloc(), &["mcv", "serve"]));
+    assert!(rt; reads(rt.alloc(), &["mcv", "check"]));
+    assert!(rt; !reads(rt.alloc(), &["mcv", "legs"]));
+    assert!(rt; !reads(rt.alloc(), &["mcv", "serve"]));
 }

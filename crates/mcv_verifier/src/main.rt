@@ -4,11 +4,11 @@
 
 use mcv_check::Accepted;
 use mcv_command::{
-    Ending, Proxy, Stop, SystemFiles, exit_status, given_words, is_quiet, reads_configuration, run_words,
-    second_line,
+    Ending, Proxy, Stop, SystemFiles, exit_status, given_words, is_quiet, reads_configuration,
+    run_words, second_line,
 };
 use mcv_input::{RunFault, read_at_most};
-use mcv_words::RunOptions;
+use mcv_words::{RunOptions, read_words};
 use std::alloc::Global;
 use std::fs::Files;
 use std::io;
@@ -70,7 +70,11 @@ fn run<R: Env + AllocGlobal + Input + Print + Files>(rt: &R) -> Result<End, Stop
     if texts.get(1).copied() == Some("run") {
         return Err(Stop::BadLine);
     }
-    if !reads_configuration(alloc, texts) {
+    let is_whole = match read_words(alloc, texts) {
+        Ok(job) => reads_configuration(&job),
+        Err(_) => false,
+    };
+    if !is_whole {
         let files = SystemFiles { system: rt };
         let ended = run_words(
             alloc,
