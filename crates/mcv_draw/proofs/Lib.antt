@@ -1,3 +1,4 @@
+pub mod Labels
 pub mod Escaping
 pub mod DrawnApart
 pub mod ChildCounts

@@ -1,15 +1,23 @@
 -- What the code's values mean: handles that are still to be drawn, and elements, by their positions.
-use Rattle.std.specs.Prelude.{ℕ, List, Option, Some, None, Box}
+use Rattle.std.specs.Prelude.{◌≡◌, ℕ, List, Option, Some, None, Box, length, min}
 use Rattle.std.specs.declared.alloc.Global.{Global}
 use Rattle.mcv_route.specs.declared.tree.Route.{Route}
+use Rattle.mcv_route.specs.Places.{tree_at}
 use Rattle.mcv_route.specs.Tree.{Tree}
 use Rattle.mcv_route.specs.View.{view}
 use Rattle.mcv_draw.specs.declared.element.Element.{Element}
+use Rattle.mcv_draw.specs.Labels.{IsWordOf}
 use Rattle.mcv_draw.specs.declared.listing.Pending.{Pending}
 
 -- a handle's position and its tree
 abbrev pub handle_of : Pending → List ℕ × Tree
 handle_of x = (x.position, view x.route.now)
+
+-- at its position of the tree, with the word of the edge that leads there
+pub record IsPendingIn (root : Tree) (x : Pending) : Type 0 where
+  pub at : tree_at root x.position ≡ Some (view x.route.now)
+  pub word : IsWordOf root x.position x.word.items
+  pub depth : x.depth ≡ min (length x.position) 4294967295
 
 -- the number of the route, and the position
 abbrev pub place_of : Element → ℕ × List ℕ

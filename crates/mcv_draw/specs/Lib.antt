@@ -3,5 +3,6 @@ pub mod Markup
 pub mod Element
 pub mod Svg
 pub mod Dot
+pub mod Labels
 pub mod Handles
 pub mod Marks

@@ -1,10 +1,14 @@
 //! The list of what is drawn of a route.
 
-ghost use Rattle.std.specs.Prelude.{◌≡◌, ◌<◌, ◌≤◌, ◌++◌, ◌∷◌, [], ℕ, List, suc, IfOk, OnOk, map};
+ghost use Rattle.std.specs.List.{All};
+ghost use Rattle.std.specs.Prelude.{◌≡◌, ◌<◌, ◌≤◌, ◌++◌, ◌∷◌, [], ℕ, List, Some, suc, IfOk, OnOk, map};
 ghost use Rattle.mcv_draw.specs.Drawn.{drawn, drawn_children, drawn_each, from_child, still_drawn, tree_count};
 ghost use Rattle.mcv_draw.specs.Element.{element_of};
-ghost use Rattle.mcv_draw.specs.Handles.{handle_of, last_count, place_of};
+ghost use Rattle.mcv_draw.specs.Handles.{IsPendingIn, handle_of, last_count, place_of};
+ghost use Rattle.mcv_draw.specs.Labels.{AreLabelled, IsLabelled};
 ghost use Rattle.mcv_draw.specs.Marks.{AreMarkedBy, IsMarkedBy, marks_of};
+ghost use Rattle.mcv_route.specs.Places.{child_at, children_of};
+ghost use Rattle.mcv_route.specs.Tree.{Tree};
 ghost use Rattle.mcv_route.specs.View.{view};
 
 use crate::element::Element;
@@ -45,6 +49,7 @@ pub fn elements(
 ) -> Result<u32, AllocError>
     ensures drawn { OnOk result (map place_of elements.new.items ≡ map place_of elements.old.items ++ map (λ p. (drawing.now.number, p)) (drawn [] (view route.now))) }
     ensures marked { OnOk result (AreMarkedBy drawing.now.number (marks_of drawing.now.marks.now) elements.old.items elements.new.items) }
+    ensures labelled { OnOk result (AreLabelled drawing.now.servers.now (view route.now) elements.old.items elements.new.items) }
 {
     let mut free = row;
     let mut pending = Vec::new(alloc);
@@ -75,6 +80,8 @@ fn draw_next<'a>(
         ≡ drawn_each next.entry.position 0 (drawn_children (view next.entry.route.now)) ++ still_drawn (map handle_of pending.old.items)) }
     ensures element { OnOk result (map place_of elements.new.items ≡ map place_of elements.old.items ++ (drawing.now.number, next.entry.position) ∷ []) }
     ensures marked { OnOk result (AreMarkedBy drawing.now.number (marks_of drawing.now.marks.now) elements.old.items elements.new.items) }
+    ensures labelled { (root : Tree) → IsPendingIn root next.entry → OnOk result (AreLabelled drawing.now.servers.now root elements.old.items elements.new.items) }
+    ensures kept { (root : Tree) → IsPendingIn root next.entry → All (IsPendingIn root) pending.old.items → OnOk result (All (IsPendingIn root) pending.new.items) }
 {
     let row = *free;
     if !next.is_folded {
@@ -124,8 +131,9 @@ fn push_children<'a>(
     row: u32,
     pending: &mut Vec<Pending<'a>>,
 ) -> Result<(), AllocError>
-    ensures { OnOk result (still_drawn (map handle_of pending.new.items)
+    ensures pending { OnOk result (still_drawn (map handle_of pending.new.items)
         ≡ drawn_each parent.now.position 0 (drawn_children (view parent.now.route.now)) ++ still_drawn (map handle_of pending.old.items)) }
+    ensures kept { (root : Tree) → IsPendingIn root parent.now → All (IsPendingIn root) pending.old.items → OnOk result (All (IsPendingIn root) pending.new.items) }
 {
     let mut number = child_count(parent.route);
     while number > 0 {
@@ -144,11 +152,12 @@ fn push_child<'a>(
     pending: &mut Vec<Pending<'a>>,
 ) -> Result<(), AllocError>
     requires { number < tree_count (drawn_children (view parent.now.route.now)) }
-    ensures { OnOk result ((rest : List (List ℕ))
+    ensures pending { OnOk result ((rest : List (List ℕ))
         → still_drawn (map handle_of pending.old.items)
         ≡ drawn_each parent.now.position (suc number) (from_child (suc number) (drawn_children (view parent.now.route.now))) ++ rest
         → still_drawn (map handle_of pending.new.items)
         ≡ drawn_each parent.now.position number (from_child number (drawn_children (view parent.now.route.now))) ++ rest) }
+    ensures kept { (root : Tree) → IsPendingIn root parent.now → All (IsPendingIn root) pending.old.items → OnOk result (All (IsPendingIn root) pending.new.items) }
 {
     // Each number below the count has a child.
     let Some(route) = child_of(parent.route, number) else {
@@ -166,7 +175,8 @@ fn child_pending<'a>(
     number: usize,
     row: u32,
 ) -> Result<Pending<'a>, AllocError>
-    ensures { IfOk result (λ child. handle_of child ≡ (parent.now.position ++ number ∷ [], view route.now)) }
+    ensures handle { IfOk result (λ child. handle_of child ≡ (parent.now.position ++ number ∷ [], view route.now)) }
+    ensures placed { (root : Tree) → IsPendingIn root parent.now → child_at (children_of (view parent.now.route.now)) number ≡ Some (view route.now) → IfOk result (IsPendingIn root) }
 {
     Ok(Pending {
         route,
@@ -187,6 +197,7 @@ fn element_of(
 ) -> Result<Element, AllocError>
     ensures place { IfOk result (λ e. place_of e ≡ (drawing.now.number, next.entry.position)) }
     ensures marked { IfOk result (λ e. IsMarkedBy drawing.now.number (marks_of drawing.now.marks.now) (element_of e)) }
+    ensures labelled { (root : Tree) → IsPendingIn root next.entry → IfOk result (λ e. IsLabelled drawing.now.servers.now root (element_of e)) }
 {
     let label = label_of(alloc, next.route, child_count(next.route), drawing.servers)?;
     let marks = drawing.marks;
