@@ -26,7 +26,7 @@ use Rattle.mcv_command.specs.declared.stop.Stop.{Stop}
 use Rattle.mcv_command.specs.declared.stop.Stop.TheVariants.{BadLine, Mended, NoChange, Run, Damaged}
 use Rattle.mcv_command.specs.Program.{Held, IfGiven, IsJudgingFault, IsListingStop, IsMendingStop, IsStop}
 use Rattle.mcv_command.specs.Stop.{of_records, stop_of_mending}
-use Rattle.mcv_words.specs.Words.{AsksCheck, AsksMend, AsksRun, AsksSpool, RunOrder, SpoolOrder}
+use Rattle.mcv_words.specs.Words.{AsksCheck, AsksDraw, AsksMend, AsksRun, AsksSpool, RunOrder, SpoolOrder}
 use Rattle.mcv_words.specs.declared.options.CheckOptions.{CheckOptions}
 
 -- ---- the faults of a verdict, as the program's
@@ -39,11 +39,19 @@ judging_stop words held input cert options (Run fault) asks holds = inr (inr (in
 judging_stop words held input cert options (Mended fault) asks holds = absurd holds
 judging_stop words held input cert options NoChange asks holds = absurd holds
 
+pub drawing_stop : (words : List Text) (held : Held) (input : Option Text) (dot : Bool) (stop : Stop) → AsksDraw words dot → IsJudgingFault held None 0 input stop
+    → IsStop words held input stop
+drawing_stop words held input dot BadLine asks holds = absurd holds
+drawing_stop words held input dot (Damaged slot) asks holds = absurd holds
+drawing_stop words held input dot (Run fault) asks holds = inr (inr (inr (inl (dot, asks, holds))))
+drawing_stop words held input dot (Mended fault) asks holds = absurd holds
+drawing_stop words held input dot NoChange asks holds = absurd holds
+
 pub running_stop : (words : List Text) (held : Held) (input : Option Text) (order : RunOrder) (stop : Stop) → AsksRun words order
     → IsJudgingFault held None order.settings.window.seconds input stop → IsStop words held input stop
 running_stop words held input order BadLine asks holds = absurd holds
 running_stop words held input order (Damaged slot) asks holds = absurd holds
-running_stop words held input order (Run fault) asks holds = inr (inr (inr (inr (order, asks, holds))))
+running_stop words held input order (Run fault) asks holds = inr (inr (inr (inr (inr (order, asks, holds)))))
 running_stop words held input order (Mended fault) asks holds = absurd holds
 running_stop words held input order NoChange asks holds = absurd holds
 
@@ -64,7 +72,7 @@ mending_fault input mend_faults.GaveUp holds = holds
 pub mending_stop : (words : List Text) (held : Held) (input : Option Text) (stop : Stop) → AsksMend words → IsMendingStop input stop → IsStop words held input stop
 mending_stop words held input BadLine asks holds = absurd holds
 mending_stop words held input (Damaged slot) asks holds = absurd holds
-mending_stop words held input (Run fault) asks holds = inr (inr (inr (inl (asks, holds))))
+mending_stop words held input (Run fault) asks holds = inr (inr (inr (inr (inl (asks, holds)))))
 mending_stop words held input (Mended fault) asks holds = (asks, holds)
 mending_stop words held input NoChange asks holds = (asks, holds)
 

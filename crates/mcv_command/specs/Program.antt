@@ -15,13 +15,14 @@ use Rattle.mcv_records.specs.declared.list.Shown.{Shown}
 use Rattle.mcv_records.specs.declared.list.Shown.TheVariants.{Pending, All}
 use Rattle.mcv_route.specs.Routes.{RoutesValue, within}
 use Rattle.mcv_show.specs.AsAsked.{IsVerdictAs}
+use Rattle.mcv_show.specs.Drawing.{IsDrawnOn}
 use Rattle.mcv_spool.specs.File.{damage, slots}
 use Rattle.mcv_symbolic.specs.CoveredRoutes.{AreCovered}
 use Rattle.mcv_verdict.specs.Fault as check
 use Rattle.mcv_verdict.specs.Verdict.{IsVerdictOn}
 use Rattle.mcv_verdict.specs.declared.verdict.Verdict.{Verdict}
 use Rattle.mcv_verdict.specs.declared.verdict.Verdict.TheVariants as verdicts
-use Rattle.mcv_words.specs.Words.{AsksCheck, AsksMend, AsksRun, AsksSpool, IsJobOf, IsLineFault, RunOrder, SpoolOrder, faults}
+use Rattle.mcv_words.specs.Words.{AsksCheck, AsksDraw, AsksMend, AsksRun, AsksSpool, IsJobOf, IsLineFault, RunOrder, SpoolOrder, faults}
 use Rattle.mcv_words.specs.declared.options.CheckOptions.{CheckOptions}
 use Rattle.mcv_words.specs.declared.words.Job.TheVariants as jobs
 use Rattle.mcv_words.specs.declared.words.LineFault.TheVariants as line_fault
@@ -54,6 +55,11 @@ abbrev pub IsJudgedAs : CheckOptions → Held → Option Text → (input old new
 IsJudgedAs options held cert input old new ending =
     (verdict : Verdict) × (text : Text) × IfSome input (λ bytes. IfGiven held cert (λ certificate. IsVerdictAs options bytes certificate verdict text))
     × Appends old new text × (ending ≡ ending_of verdict)
+
+-- the routes of the input were drawn, whatever the verdict on them
+abbrev pub IsDrawn : (dot : Bool) → (input old new : Option Text) → Ending → Type 0
+IsDrawn dot input old new ending =
+    (verdict : Verdict) × (text : Text) × IfSome input (λ bytes. IsDrawnOn dot bytes verdict text) × Appends old new text × (ending ≡ Done)
 
 -- memory ran out, or a device failed; or the fault is in the input or in the certificate that is given
 abbrev pub IsJudgingFault : Held → Option Text → (window : ℕ) → (input : Option Text) → Stop → Type 0
@@ -127,18 +133,19 @@ abbrev pub IsShownFor : List Text → Text → Type 0
 IsShownFor words text = IsAmong DisplayHelp (faults words) ⊎ (IsAmong DisplayVersion (faults words) × (text ≡ version_line))
 
 -- help or the version was asked for and shown; or the words ask for legs at a moment, and what answers the input at that moment was written; or they
--- ask for a verdict, and it was written as they ask; or they ask for the input mended, and it was written; or they ask for a run, and the proxy served as
+-- ask for a verdict, and it was written as they ask; or they ask for a picture, or for the input mended, and it was written; or they ask for a run, and the proxy served as
 -- they ask, or the verdict was written by which it doesn't; or they ask for the records of a spool's file, and their text was written
 abbrev pub IsDone : List Text → Held → Serves → (input old new : Option Text) → Ending → Type 0
 IsDone words held serves input old new ending =
     ((text : Text) × IsShownFor words text × Appends old new text × (ending ≡ Done))
     ⊎ (((at : Moment) × IsJobOf words (jobs.Legs at) × (text : Text) × IfSome input (λ bytes. IsAnswer at.0 bytes text) × Appends old new text × (ending ≡ Done))
     ⊎ (((cert : Option Text) × (options : CheckOptions) × AsksCheck words cert options × IsJudgedAs options held cert input old new ending)
+    ⊎ (((dot : Bool) × AsksDraw words dot × IsDrawn dot input old new ending)
     ⊎ ((AsksMend words × IsMended input old new ending)
     ⊎ (((order : RunOrder) × AsksRun words order × IsServed held serves order input old new ending)
-    ⊎ ((order : SpoolOrder) × AsksSpool words order × IsListed held order old new × (ending ≡ Done))))))
+    ⊎ ((order : SpoolOrder) × AsksSpool words order × IsListed held order old new × (ending ≡ Done)))))))
 
--- the words are at fault; or memory ran out, or a device failed; or the words ask for legs, for a verdict, for the input mended or for a run, and
+-- the words are at fault; or memory ran out, or a device failed; or the words ask for legs, for a verdict, for a picture, for the input mended or for a run, and
 -- the fault is in what was read; or it isn't mended; or they ask for the records of a spool's file, and one of its slots is damaged
 abbrev pub IsStop : List Text → Held → (input : Option Text) → Stop → Type 0
 IsStop words held input BadLine = IsLineFault words line_fault.BadLine
@@ -147,7 +154,8 @@ IsStop words held input (Run fault) =
     IsOutside fault
     ⊎ (((at : Moment) × IsJobOf words (jobs.Legs at) × IfSome input (λ bytes. legs.IsRunFault bytes fault))
     ⊎ (((cert : Option Text) × (options : CheckOptions) × AsksCheck words cert options × IsJudgingFault held cert options.window.seconds input (Run fault))
+    ⊎ (((dot : Bool) × AsksDraw words dot × IsJudgingFault held None 0 input (Run fault))
     ⊎ ((AsksMend words × IsMendingStop input (Run fault))
-    ⊎ ((order : RunOrder) × AsksRun words order × IsJudgingFault held None order.settings.window.seconds input (Run fault)))))
+    ⊎ ((order : RunOrder) × AsksRun words order × IsJudgingFault held None order.settings.window.seconds input (Run fault))))))
 IsStop words held input (Mended fault) = AsksMend words × IsMendingStop input (Mended fault)
 IsStop words held input NoChange = AsksMend words × IsMendingStop input NoChange

@@ -1,7 +1,7 @@
 //! The program, over any reader and writer in place of standard input and output, any files and any proxy.
 
 ghost use Rattle.std.specs.Prelude.{◌≡◌, ◌≢◌, ℕ, None, Some, Err, false, IfErr, IfOk, map};
-ghost use Rattle.mcv_command.specs.Program.{AsksAnyRun, AsksAnySpool, AsksReport, Held, IsDone, IsJudgedAs, IsJudgingFault, IsListed, IsListedTo, IsListingStop, IsMended, IsMendingStop, IsServed, IsStop, ending_of, shown_of};
+ghost use Rattle.mcv_command.specs.Program.{AsksAnyRun, AsksAnySpool, AsksReport, Held, IsDone, IsDrawn, IsJudgedAs, IsJudgingFault, IsListed, IsListedTo, IsListingStop, IsMended, IsMendingStop, IsServed, IsStop, ending_of, shown_of};
 ghost use Rattle.mcv_command.specs.declared.stop.Stop.TheVariants.{Run, Damaged};
 ghost use Rattle.mcv_input.specs.declared.fault.RunFault.TheVariants.{Device, Memory};
 ghost use Rattle.mcv_words.specs.Words.{AsksSpool, SpoolOrder, order_of, spool_order_of};
@@ -13,7 +13,7 @@ use mcv_input::{RunFault, write_text};
 use mcv_legs::run_legs;
 use mcv_mend::run_mend;
 use mcv_records::{Shown, write_records};
-use mcv_show::run_check_as;
+use mcv_show::{run_check_as, run_draw};
 use mcv_verdict::{Judgement, Verdict, judge_input};
 use mcv_words::{CheckOptions, Job, LineFault, RunOptions, SpoolOptions, read_words};
 use std::alloc::Global;
@@ -64,6 +64,21 @@ fn judge_by<R: Read, W: Write, F: NamedFiles>(
     let text = files.read_named(alloc, name, CERTIFICATE_LIMIT)?;
     let verdict = run_check_as(alloc, reader, writer, Some(text.as_slice()), options)?;
     Ok(ending_of(verdict))
+}
+
+/// Draws the routes of a configuration.
+fn draw<R: Read, W: Write>(
+    alloc: Global,
+    dot: bool,
+    reader: &mut R,
+    writer: &mut W,
+) -> Result<Ending, Stop>
+    ensures done { IfOk result (IsDrawn dot (R.remaining reader.old) (W.contents writer.old) (W.contents writer.new)) }
+    ensures stop { (held : Held) → IfErr result (IsJudgingFault held None 0 (R.remaining reader.old)) }
+    ensures silent { IfErr result (λ stop. stop ≢ Run Device → W.contents writer.new ≡ W.contents writer.old) }
+{
+    let _verdict = run_draw(alloc, reader, writer, dot)?;
+    Ok(Ending::Done)
 }
 
 /// Writes a configuration with the legs that its deletes lack, and one that is covered as it is.
@@ -131,7 +146,7 @@ fn list_records<W: Write, F: NamedFiles>(
 }
 
 /// Does what the words of a command line ask for, of which the first is the program's name: help,
-/// legs, verdicts, a mended configuration and records are written to the writer, and so is what the proxy says of itself.
+/// legs, verdicts, pictures, a mended configuration and records are written to the writer, and so is what the proxy says of itself.
 pub fn run_words<'a, R: Read, W: Write, F: NamedFiles, P: Proxy>(
     alloc: Global,
     words: &'a [&'a str],
@@ -166,6 +181,7 @@ pub fn run_words<'a, R: Read, W: Write, F: NamedFiles, P: Proxy>(
                 options,
             },
         ) => judge_by(alloc, name, options, files, reader, writer),
+        Ok(Job::Draw { dot }) => draw(alloc, dot, reader, writer),
         Ok(Job::Mend) => mend(alloc, reader, writer),
         Ok(Job::Run(options)) => serve(alloc, proxy, options, reader, writer),
         Ok(Job::Spool(options)) => list_records(alloc, options, files, writer),

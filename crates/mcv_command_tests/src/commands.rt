@@ -40,6 +40,10 @@ mcv check --explain -q --window 60: check 60, explained, quietly
 mcv check --quiet --cert a.cert: check 0 by a.cert, quietly
 mcv check --json --window 60: check 60, as JSON
 mcv check --explain --explain: bad line
+mcv draw: draw
+mcv draw --dot: draw for Graphviz
+mcv draw --dot -q: draw for Graphviz
+mcv draw --svg: bad line
 mcv check --explain=yes: bad line
 mcv check --at 1: bad line
 mcv legs --cert a: bad line
@@ -165,6 +169,8 @@ fn job_text(rt: &(impl AllocGlobal + Abort), job: Job<'_>) -> String {
             let window = options.window.seconds;
             format!(in rt.alloc(); "check {window} by {name}{}", options_text(options))
         }
+        Job::Draw { dot: true } => format!(in rt.alloc(); "draw for Graphviz"),
+        Job::Draw { dot: false } => format!(in rt.alloc(); "draw"),
         Job::Mend => format!(in rt.alloc(); "mend"),
         Job::Run(options) => {
             let order = order_text(rt, options);
@@ -332,6 +338,7 @@ const MAIN_PARTS: &[&str] = &[
     "Usage: mcv <COMMAND>",
     "mcrouter",
     "  check  ",
+    "  draw  ",
     "  legs  ",
     "  mend  ",
     "  run  ",

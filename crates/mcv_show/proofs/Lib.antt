@@ -1,2 +1,5 @@
 pub mod WholeInput
+pub mod RoutesInTurn
 pub mod Verdicts
+pub mod Marking
+pub mod Lines

@@ -1,8 +1,12 @@
 -- What is said of routes, by what was found of them.
 use Rattle.std.proofs.Common.{◌≡◌, ◌++◌, ℕ, Bool, true, false, List, [], Option, None, Some, length, refl, subst, sym, true≢false}
+use Rattle.std.specs.List.{All}
 use Rattle.std.proofs.lemmas.List.{append-nil}
 use Rattle.serde_json.specs.Data.{Data}
 use Rattle.mcv_cert.specs.Pair.{CertificateValue}
+use Rattle.mcv_draw.specs.Dot.{dot}
+use Rattle.mcv_draw.specs.Element.{ElementValue}
+use Rattle.mcv_draw.specs.Svg.{svg}
 use Rattle.mcv_explain.specs.Explanation.{explanation}
 use Rattle.mcv_input.specs.declared.fault.RunFault.TheVariants.{Memory}
 use Rattle.mcv_route.specs.Eras.{IsBreakTable, breaks_of}
@@ -11,9 +15,11 @@ use Rattle.mcv_report.specs.CertificateReport.{covered_report}
 use Rattle.mcv_report.specs.FindingReport.{lost_report}
 use Rattle.mcv_report.specs.Json.{IsJsonOf}
 use Rattle.mcv_show.specs.AsAsked.{IsVerdictAs, IsVerdictIf}
+use Rattle.mcv_show.specs.Drawing.{AreElementsOf, IsDrawnOf, IsFoundIn, IsPictureOf, note_lines}
 use Rattle.mcv_show.specs.Explained.{IsExplainedOf, IsExplainedOn, covered_explained, if_made, is_made, scene}
 use Rattle.mcv_show.specs.Reported.{IsReportedOf, IsReportedOn}
 use Rattle.mcv_verdict.specs.Fault.{IsRefusedFor}
+use Rattle.mcv_verdict.specs.Text.{covered_line}
 use Rattle.mcv_verdict.specs.Verdict.{IsJudgedFor, IsVerdictOn}
 use Rattle.mcv_verdict.specs.declared.verdict.Judged.TheVariants as judged
 use Rattle.mcv_verdict.specs.declared.verdict.Verdict.{Verdict}
@@ -107,3 +113,31 @@ pub reported_covered : (d : Data) (r routes : RoutesValue) (given : Option (List
 reported_covered d r routes None c v text found is said = subst (λ (w : Verdict). IsReportedOf d r None w text) (sym is) (c, found.1, found.2, refl, said)
 reported_covered d r routes (Some certificate) c v text found is said =
     subst (λ (w : Verdict). IsReportedOf d r (Some certificate) w text) (sym is) (c, found.2, found.1, refl, said)
+
+-- ---- pictures
+
+pub as_graph : (is_dot : Bool) (es : List ElementValue) (said text : List ℕ) → is_dot ≡ true → text ≡ dot es → IsPictureOf is_dot es said text
+as_graph true es said text is of = of
+as_graph false es said text is of = absurd (true≢false (sym is))
+
+pub as_svg : (is_dot : Bool) (es : List ElementValue) (rows : ℕ) (said text : List ℕ) → is_dot ≡ false → text ≡ svg es rows (note_lines said) → IsPictureOf is_dot es said text
+as_svg true es rows said text is of = absurd (true≢false is)
+as_svg false es rows said text is of = (rows, of)
+
+pub drawn_covered : (dot : Bool) (r routes : RoutesValue) (c : CertificateValue) (v : Verdict) (text : List ℕ) → IsJudgedFor r None (judged.Covered routes c) → v ≡ Covered (length c.pairs)
+    → (es : List ElementValue) × AreElementsOf routes es × IsPictureOf dot es (covered_line (length c.pairs)) text → IsDrawnOf dot r v text
+drawn_covered dot r routes c v text found is drawn =
+    subst (λ (w : Verdict). IsDrawnOf dot r w text) (sym is)
+    (c, found.1, found.2, refl, drawn.0, subst (λ (x : RoutesValue). AreElementsOf x drawn.0) found.0 drawn.1, drawn.2)
+
+pub drawn_lost : (dot : Bool) (r routes : RoutesValue) (f : Finding) (v : Verdict) (text : List ℕ) → IsJudgedFor r None (judged.Lost routes f) → v ≡ Lost
+    → (es : List ElementValue) × AreElementsOf routes es × All (IsFoundIn (finding_of f)) es × IsPictureOf dot es (finding_text routes (finding_of f)) text → IsDrawnOf dot r v text
+drawn_lost dot r routes f v text found is drawn =
+    subst (λ (w : Verdict). IsDrawnOf dot r w text) (sym is) (
+      finding_of f,
+      found.1,
+      drawn.0,
+      subst (λ (x : RoutesValue). AreElementsOf x drawn.0) found.0 drawn.1,
+      drawn.2,
+      subst (λ (x : RoutesValue). IsPictureOf dot drawn.0 (finding_text x (finding_of f)) text) found.0 drawn.3,
+    )

@@ -12,6 +12,7 @@ use Rattle.mcv_places.specs.Document.{HasNoDocument}
 use Rattle.mcv_route.specs.Routes.{RoutesValue}
 use Rattle.mcv_verdict.specs.Fault.{IsRunFault}
 use Rattle.mcv_verdict.specs.declared.verdict.Verdict.{Verdict}
+use Rattle.mcv_show.specs.Drawing.{IsDrawnOn}
 use Rattle.mcv_show.specs.Explained.{IsExplainedOn}
 use Rattle.mcv_show.specs.Reported.{IsFaultText, IsReportedOn}
 
@@ -56,6 +57,10 @@ run_fault_whole first bytes window certificate (Certificate fault) is holds = (h
 run_fault_whole first bytes window certificate Window is holds = (holds.0, named_whole first bytes holds.0 is holds.1, holds.2)
 run_fault_whole first bytes window certificate Memory is holds = tt
 run_fault_whole first bytes window certificate Device is holds = tt
+
+-- what is drawn of what was read is drawn of the whole input
+pub drawn_whole : (dot : Bool) (first bytes : List ℕ) (verdict : Verdict) (text : List ℕ) → first ≡ take read_limit bytes → IsDrawnOn dot first verdict text → IsDrawnOn dot bytes verdict text
+drawn_whole dot first bytes verdict text is on = (on.0, named_whole first bytes on.0 is on.1, on.2)
 
 -- the fault of a run, or what came in reporting it
 pub reported_fault : (input : List ℕ) (window : ℕ) (certificate : Option (List ℕ)) (fault found : RunFault) → (found ≡ fault) ⊎ IsOutside found → IsRunFault input window certificate fault

@@ -1,3 +1,5 @@
 pub mod Explained
 pub mod Reported
 pub mod AsAsked
+pub mod Drawing
+pub mod Found

@@ -244,6 +244,14 @@ quiet_named : flag_of (codes "quiet") (named (codes "mcv" ∷ codes "check" ∷ 
 unfolding clap_on_literals
 quiet_named = refl
 
+draw : faults (codes "mcv" ∷ codes "draw" ∷ []) ≡ []
+unfolding clap_on_literals
+draw = refl
+
+dot_named : flag_of (codes "dot") (named (codes "mcv" ∷ codes "draw" ∷ codes "--dot" ∷ [])) ≡ Some (Some (codes "true"))
+unfolding clap_on_literals
+dot_named = refl
+
 -- a flag takes no value
 flag_with_a_value : faults (codes "mcv" ∷ codes "check" ∷ codes "--explain=x" ∷ []) ≡ TooManyValues ∷ []
 unfolding clap_on_literals

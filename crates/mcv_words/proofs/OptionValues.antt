@@ -628,20 +628,22 @@ at_legs : (stop : Option (Text × List Text)) (rows : List Row) → StopsAtComma
     → entered_fault (built mcv_app) stop ≡ [] → HasAt rows
 at_legs None rows stops at none = absurd (cc)
 at_legs (Some p) rows (inl other) at none = absurd (name_apart (codes "check") (codes "legs") _ rows refl refl (at_name (codes "legs") (codes "check") p rows other at))
-at_legs (Some p) rows (inr (inr (inl other))) at none = absurd (name_apart (codes "mend") (codes "legs") _ rows refl refl (at_name (codes "legs") (codes "mend") p rows other at))
-at_legs (Some p) rows (inr (inr (inr (inl other)))) at none = absurd (name_apart (codes "run") (codes "legs") _ rows refl refl (at_name (codes "legs") (codes "run") p rows other at))
-at_legs (Some p) rows (inr (inr (inr (inr other)))) at none = absurd (name_apart (codes "spool") (codes "legs") _ rows refl refl (at_name (codes "legs") (codes "spool") p rows other at))
-at_legs (Some p) rows (inr (inl is)) at none =
+at_legs (Some p) rows (inr (inl other)) at none = absurd (name_apart (codes "draw") (codes "legs") _ rows refl refl (at_name (codes "legs") (codes "draw") p rows other at))
+at_legs (Some p) rows (inr (inr (inr (inl other)))) at none = absurd (name_apart (codes "mend") (codes "legs") _ rows refl refl (at_name (codes "legs") (codes "mend") p rows other at))
+at_legs (Some p) rows (inr (inr (inr (inr (inl other))))) at none = absurd (name_apart (codes "run") (codes "legs") _ rows refl refl (at_name (codes "legs") (codes "run") p rows other at))
+at_legs (Some p) rows (inr (inr (inr (inr (inr other))))) at none = absurd (name_apart (codes "spool") (codes "legs") _ rows refl refl (at_name (codes "legs") (codes "spool") p rows other at))
+at_legs (Some p) rows (inr (inr (inl is))) at none =
     let same : rows_after legs.rules [] p.1 ≡ rows = rows_there (codes "legs") (rows_after legs.rules [] p.1) rows (at_name (codes "legs") (codes "legs") p rows is at) in
     subst HasAt same (legs_given p.1 (no_fault_at (codes "legs") p is none))
 
 at_check : (stop : Option (Text × List Text)) (rows : List Row) → StopsAtCommand stop → entered (built mcv_app) stop ≡ Some (codes "check", rows)
     → entered_fault (built mcv_app) stop ≡ [] → HasWindow rows
 at_check None rows stops at none = absurd (cc)
-at_check (Some p) rows (inr (inl other)) at none = absurd (name_apart (codes "legs") (codes "check") _ rows refl refl (at_name (codes "check") (codes "legs") p rows other at))
-at_check (Some p) rows (inr (inr (inl other))) at none = absurd (name_apart (codes "mend") (codes "check") _ rows refl refl (at_name (codes "check") (codes "mend") p rows other at))
-at_check (Some p) rows (inr (inr (inr (inl other)))) at none = absurd (name_apart (codes "run") (codes "check") _ rows refl refl (at_name (codes "check") (codes "run") p rows other at))
-at_check (Some p) rows (inr (inr (inr (inr other)))) at none = absurd (name_apart (codes "spool") (codes "check") _ rows refl refl (at_name (codes "check") (codes "spool") p rows other at))
+at_check (Some p) rows (inr (inl other)) at none = absurd (name_apart (codes "draw") (codes "check") _ rows refl refl (at_name (codes "check") (codes "draw") p rows other at))
+at_check (Some p) rows (inr (inr (inl other))) at none = absurd (name_apart (codes "legs") (codes "check") _ rows refl refl (at_name (codes "check") (codes "legs") p rows other at))
+at_check (Some p) rows (inr (inr (inr (inl other)))) at none = absurd (name_apart (codes "mend") (codes "check") _ rows refl refl (at_name (codes "check") (codes "mend") p rows other at))
+at_check (Some p) rows (inr (inr (inr (inr (inl other))))) at none = absurd (name_apart (codes "run") (codes "check") _ rows refl refl (at_name (codes "check") (codes "run") p rows other at))
+at_check (Some p) rows (inr (inr (inr (inr (inr other))))) at none = absurd (name_apart (codes "spool") (codes "check") _ rows refl refl (at_name (codes "check") (codes "spool") p rows other at))
 at_check (Some p) rows (inl is) at none =
     let same : rows_after check.rules [] p.1 ≡ rows = rows_there (codes "check") (rows_after check.rules [] p.1) rows (at_name (codes "check") (codes "check") p rows is at) in
     subst HasWindow same (check_given p.1 (no_fault_at (codes "check") p is none))
@@ -650,10 +652,11 @@ at_run : (stop : Option (Text × List Text)) (rows : List Row) → StopsAtComman
     → entered_fault (built mcv_app) stop ≡ [] → HasAll rows
 at_run None rows stops at none = absurd (cc)
 at_run (Some p) rows (inl other) at none = absurd (name_apart (codes "check") (codes "run") _ rows refl refl (at_name (codes "run") (codes "check") p rows other at))
-at_run (Some p) rows (inr (inl other)) at none = absurd (name_apart (codes "legs") (codes "run") _ rows refl refl (at_name (codes "run") (codes "legs") p rows other at))
-at_run (Some p) rows (inr (inr (inl other))) at none = absurd (name_apart (codes "mend") (codes "run") _ rows refl refl (at_name (codes "run") (codes "mend") p rows other at))
-at_run (Some p) rows (inr (inr (inr (inr other)))) at none = absurd (name_apart (codes "spool") (codes "run") _ rows refl refl (at_name (codes "run") (codes "spool") p rows other at))
-at_run (Some p) rows (inr (inr (inr (inl is)))) at none =
+at_run (Some p) rows (inr (inl other)) at none = absurd (name_apart (codes "draw") (codes "run") _ rows refl refl (at_name (codes "run") (codes "draw") p rows other at))
+at_run (Some p) rows (inr (inr (inl other))) at none = absurd (name_apart (codes "legs") (codes "run") _ rows refl refl (at_name (codes "run") (codes "legs") p rows other at))
+at_run (Some p) rows (inr (inr (inr (inl other)))) at none = absurd (name_apart (codes "mend") (codes "run") _ rows refl refl (at_name (codes "run") (codes "mend") p rows other at))
+at_run (Some p) rows (inr (inr (inr (inr (inr other))))) at none = absurd (name_apart (codes "spool") (codes "run") _ rows refl refl (at_name (codes "run") (codes "spool") p rows other at))
+at_run (Some p) rows (inr (inr (inr (inr (inl is))))) at none =
     let same : rows_after run.rules [] p.1 ≡ rows = rows_there (codes "run") (rows_after run.rules [] p.1) rows (at_name (codes "run") (codes "run") p rows is at) in
     subst HasAll same (run_given p.1 (no_fault_at (codes "run") p is none))
 
@@ -661,10 +664,11 @@ at_spool : (stop : Option (Text × List Text)) (rows : List Row) → StopsAtComm
     → entered_fault (built mcv_app) stop ≡ [] → HasFile rows
 at_spool None rows stops at none = absurd (cc)
 at_spool (Some p) rows (inl other) at none = absurd (name_apart (codes "check") (codes "spool") _ rows refl refl (at_name (codes "spool") (codes "check") p rows other at))
-at_spool (Some p) rows (inr (inl other)) at none = absurd (name_apart (codes "legs") (codes "spool") _ rows refl refl (at_name (codes "spool") (codes "legs") p rows other at))
-at_spool (Some p) rows (inr (inr (inl other))) at none = absurd (name_apart (codes "mend") (codes "spool") _ rows refl refl (at_name (codes "spool") (codes "mend") p rows other at))
-at_spool (Some p) rows (inr (inr (inr (inl other)))) at none = absurd (name_apart (codes "run") (codes "spool") _ rows refl refl (at_name (codes "spool") (codes "run") p rows other at))
-at_spool (Some p) rows (inr (inr (inr (inr is)))) at none =
+at_spool (Some p) rows (inr (inl other)) at none = absurd (name_apart (codes "draw") (codes "spool") _ rows refl refl (at_name (codes "spool") (codes "draw") p rows other at))
+at_spool (Some p) rows (inr (inr (inl other))) at none = absurd (name_apart (codes "legs") (codes "spool") _ rows refl refl (at_name (codes "spool") (codes "legs") p rows other at))
+at_spool (Some p) rows (inr (inr (inr (inl other)))) at none = absurd (name_apart (codes "mend") (codes "spool") _ rows refl refl (at_name (codes "spool") (codes "mend") p rows other at))
+at_spool (Some p) rows (inr (inr (inr (inr (inl other))))) at none = absurd (name_apart (codes "run") (codes "spool") _ rows refl refl (at_name (codes "spool") (codes "run") p rows other at))
+at_spool (Some p) rows (inr (inr (inr (inr (inr is))))) at none =
     let same : rows_after spool.rules [] p.1 ≡ rows = rows_there (codes "spool") (rows_after spool.rules [] p.1) rows (at_name (codes "spool") (codes "spool") p rows is at) in
     subst HasFile same (spool_given p.1 (no_fault_at (codes "spool") p is none))
 

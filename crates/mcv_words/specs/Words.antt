@@ -17,7 +17,7 @@ use Rattle.mcv_words.specs.declared.options.Sessions.{Sessions}
 use Rattle.mcv_words.specs.declared.options.Settings.{Settings}
 use Rattle.mcv_words.specs.declared.options.SpoolOptions.{SpoolOptions}
 use Rattle.mcv_words.specs.declared.words.Job.{Job}
-use Rattle.mcv_words.specs.declared.words.Job.TheVariants.{Legs, Check, Mend, Run, Spool}
+use Rattle.mcv_words.specs.declared.words.Job.TheVariants.{Legs, Check, Draw, Mend, Run, Spool}
 use Rattle.mcv_words.specs.declared.words.LineFault.{LineFault}
 use Rattle.mcv_words.specs.declared.words.LineFault.TheVariants.{BadLine, Memory, Help, Version}
 
@@ -68,6 +68,10 @@ quiet_rule = record (flag_rule (codes "quiet")) { short = Some 113 }
 abbrev pub check_app : App
 check_app =
     with_rule (with_rule (with_rule (with_rule (with_rule (new_app (codes "check")) cert_rule) window_rule) (flag_rule (codes "explain"))) (flag_rule (codes "json"))) quiet_rule
+
+-- `draw [--dot] [-q]`
+abbrev pub draw_app : App
+draw_app = with_rule (with_rule (new_app (codes "draw")) (flag_rule (codes "dot"))) quiet_rule
 
 -- `mend`
 abbrev pub mend_app : App
@@ -122,11 +126,11 @@ with_version app = record app { top = record app.top { has_version = true } }
 abbrev pub wanting_a_command : App → App
 wanting_a_command app = record app { top = record app.top { subcommand_required = true } }
 
--- `mcv check`, `mcv legs`, `mcv mend`, `mcv run` and `mcv spool` with their options; `mcv --version`
+-- `mcv check`, `mcv draw`, `mcv legs`, `mcv mend`, `mcv run` and `mcv spool` with their options; `mcv --version`
 abbrev pub mcv_app : App
 mcv_app =
     with_subcommand
-    (with_subcommand (with_subcommand (with_subcommand (with_subcommand (wanting_a_command (with_version (new_app (codes "mcv")))) check_app.top) legs_app.top) mend_app.top) run_app.top)
+    (with_subcommand (with_subcommand (with_subcommand (with_subcommand (with_subcommand (wanting_a_command (with_version (new_app (codes "mcv")))) check_app.top) draw_app.top) legs_app.top) mend_app.top) run_app.top)
     spool_app.top
 
 -- ---- what words ask for
@@ -157,6 +161,10 @@ HasCheckValues rows cert options = (cert ≡ first_of (codes "cert") rows) × Is
 -- clap takes the words, and they name the command `check` with these values
 abbrev pub AsksCheck : List Text → (cert : Option Text) → CheckOptions → Type 0
 AsksCheck words cert options = (faults words ≡ []) × (rows : List Row) × (named words ≡ Some (codes "check", rows)) × HasCheckValues rows cert options
+
+-- clap takes the words, and they name the command `draw`, with `--dot` or without
+abbrev pub AsksDraw : List Text → Bool → Type 0
+AsksDraw words dot = (faults words ≡ []) × (rows : List Row) × (named words ≡ Some (codes "draw", rows)) × IsFlag (codes "dot") rows dot
 
 -- clap takes the words, and they name the command `mend`
 abbrev pub AsksMend : List Text → Type 0
@@ -214,14 +222,25 @@ AsksSpool words order = (faults words ≡ []) × (rows : List Row) × (named wor
 abbrev pub IsCheckOf : List Row → Job → Type 0
 IsCheckOf rows (Legs at) = ⊥
 IsCheckOf rows (Check cert options) = HasCheckValues rows (option_map (λ name. name.now) cert) options
+IsCheckOf rows (Draw dot) = ⊥
 IsCheckOf rows Mend = ⊥
 IsCheckOf rows (Run options) = ⊥
 IsCheckOf rows (Spool options) = ⊥
+
+-- the job of `draw` with these values
+abbrev pub IsDrawOf : List Row → Job → Type 0
+IsDrawOf rows (Legs at) = ⊥
+IsDrawOf rows (Check cert options) = ⊥
+IsDrawOf rows (Draw dot) = IsFlag (codes "dot") rows dot
+IsDrawOf rows Mend = ⊥
+IsDrawOf rows (Run options) = ⊥
+IsDrawOf rows (Spool options) = ⊥
 
 -- the job of `run` with these values
 abbrev pub IsRunOf : List Row → Job → Type 0
 IsRunOf rows (Legs at) = ⊥
 IsRunOf rows (Check cert options) = ⊥
+IsRunOf rows (Draw dot) = ⊥
 IsRunOf rows Mend = ⊥
 IsRunOf rows (Run options) = HasRunValues rows (order_of options)
 IsRunOf rows (Spool options) = ⊥
@@ -230,6 +249,7 @@ IsRunOf rows (Spool options) = ⊥
 abbrev pub IsSpoolOf : List Row → Job → Type 0
 IsSpoolOf rows (Legs at) = ⊥
 IsSpoolOf rows (Check cert options) = ⊥
+IsSpoolOf rows (Draw dot) = ⊥
 IsSpoolOf rows Mend = ⊥
 IsSpoolOf rows (Run options) = ⊥
 IsSpoolOf rows (Spool options) = HasSpoolValues rows (spool_order_of options)
@@ -256,6 +276,7 @@ pub record CanRun (rows : List Row) : Type 0 where
 abbrev pub IsJobOf : List Text → Job → Type 0
 IsJobOf words (Check cert options) = AsksCheck words (option_map (λ name. name.now) cert) options
 IsJobOf words (Legs at) = (faults words ≡ []) × (rows : List Row) × (named words ≡ Some (codes "legs", rows)) × IsNumberOf (codes "at") rows at.0
+IsJobOf words (Draw dot) = AsksDraw words dot
 IsJobOf words Mend = AsksMend words
 IsJobOf words (Run options) = AsksRun words (order_of options)
 IsJobOf words (Spool options) = AsksSpool words (spool_order_of options)

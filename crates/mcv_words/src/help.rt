@@ -77,6 +77,23 @@ pub(crate) const CHECK_ABOUT: &str = "Decides whether a configuration can lose a
 
 pub(crate) const CERT: &str = "A certificate in place of one that mcv makes";
 
+pub(crate) const DOT: &str = "A graph for Graphviz in place of SVG";
+
+pub(crate) const DRAW_ABOUT: &str = "Draws the routes of a configuration, with what `check` finds";
+
+pub(crate) const DRAW_FORM: &str =
+    "Standard input has the configuration as JSON. Standard output has its routes as
+one picture, SVG by itself: a box for each handle, with the servers of a pool.
+
+  mcv draw < mcrouter.json > mcrouter.svg
+
+Of a configuration that can lose a delete the finding stands below, the legs
+that answer its get and its delete are drawn thick, and the leaf whose server is
+lost is marked. Red and dashed is where each delete goes that is acknowledged,
+blue what a get can be answered by: for the finding's keys, or where it is
+covered, by the certificate. Handles with more than 60 children
+are folded. The exit status is 0 in both cases.";
+
 pub(crate) const EXPLAIN: &str = "The finding in sentences behind its text";
 
 pub(crate) const JSON: &str = "The verdict as JSON, or the fault in its place";

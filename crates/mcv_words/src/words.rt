@@ -5,13 +5,13 @@ ghost use Rattle.std.specs.Prelude.{◌≡◌, codes, false, option_map, IfOk, I
 ghost use Rattle.clap.specs.Words.{Text, app_of, first_of, found_of, kind_of, rows_of, rule_of};
 ghost use Rattle.clap.specs.declared.builder.command.Command.TheViews.{out-Command as fields_of};
 ghost use Rattle.mcv_words.specs.Ranges.{window_limit};
-ghost use Rattle.mcv_words.specs.Words.{at_rule, cert_rule, check_app, client_timeout_rule, file_rule, flag_rule, legs_app, listen_rule, mcv_app, mend_app, proxies_rule, quiet_rule, run_app, server_timeout_rule, sessions_rule, spool_app, spool_rule, window_rule, line_fault_number, CanRun, IsCheckOf, IsFaultOfKind, IsGivenIn, IsJobOf, IsLineFault, IsNumberIfGiven, IsRunOf, IsSpoolOf, MayBeGivenIn};
+ghost use Rattle.mcv_words.specs.Words.{at_rule, cert_rule, check_app, client_timeout_rule, draw_app, file_rule, flag_rule, legs_app, listen_rule, mcv_app, mend_app, proxies_rule, quiet_rule, run_app, server_timeout_rule, sessions_rule, spool_app, spool_rule, window_rule, line_fault_number, CanRun, IsCheckOf, IsDrawOf, IsFaultOfKind, IsGivenIn, IsJobOf, IsLineFault, IsNumberIfGiven, IsRunOf, IsSpoolOf, MayBeGivenIn};
 ghost use Rattle.mcv_words.specs.declared.words.LineFault.TheVariants.{Memory as out_of_memory};
 
 use crate::help::{
-    ABOUT, ALL, AT, CERT, CHECK_ABOUT, CHECK_FORM, CLIENT_TIMEOUT, EXAMPLE, EXPLAIN, FILE, JSON,
-    LEGS_ABOUT, LEGS_FORM, LISTEN, MEND_ABOUT, MEND_FORM, PROXIES, QUIET, RUN_ABOUT, RUN_FORM,
-    SERVER_TIMEOUT, SESSIONS, SPOOL, SPOOL_ABOUT, SPOOL_FORM, WINDOW,
+    ABOUT, ALL, AT, CERT, CHECK_ABOUT, CHECK_FORM, CLIENT_TIMEOUT, DOT, DRAW_ABOUT, DRAW_FORM,
+    EXAMPLE, EXPLAIN, FILE, JSON, LEGS_ABOUT, LEGS_FORM, LISTEN, MEND_ABOUT, MEND_FORM, PROXIES,
+    QUIET, RUN_ABOUT, RUN_FORM, SERVER_TIMEOUT, SESSIONS, SPOOL, SPOOL_ABOUT, SPOOL_FORM, WINDOW,
 };
 use crate::options::{
     CheckOptions, ClientTimeout, InRange, Proxies, RunOptions, ServerTimeout, Sessions, Settings,
@@ -35,6 +35,10 @@ pub enum Job<'a> {
     Check {
         cert: Option<&'a str>,
         options: CheckOptions,
+    },
+    /// To draw the routes of a configuration, for Graphviz or as SVG.
+    Draw {
+        dot: bool,
     },
     /// To mend a configuration.
     Mend,
@@ -162,6 +166,18 @@ fn check_command<'a>(alloc: Global) -> Result<Command<'a>, AllocError>
         .arg(quiet_flag(alloc))
 }
 
+fn draw_command<'a>(alloc: Global) -> Result<Command<'a>, AllocError>
+    ensures app { IfOk result (λ c. app_of c ≡ draw_app) }
+    ensures local { IfOk result (λ c. (fields_of c).has_globals ≡ false) }
+{
+    Command::new(alloc, "draw")
+        .about(DRAW_ABOUT)
+        .override_usage("mcv draw [--dot] [-q] < FILE")
+        .after_help(DRAW_FORM)
+        .arg(flag(alloc, "dot", DOT))?
+        .arg(quiet_flag(alloc))
+}
+
 fn mend_command<'a>(alloc: Global) -> Command<'a>
     ensures app { app_of result ≡ mend_app }
     ensures local { (fields_of result).has_globals ≡ false }
@@ -282,6 +298,7 @@ fn command<'a>(alloc: Global) -> Result<Command<'a>, AllocError>
     ensures { IfOk result (λ c. app_of c ≡ mcv_app) }
 {
     let check = check_command(alloc)?;
+    let draw = draw_command(alloc)?;
     let legs = legs_command(alloc)?;
     let run = run_command(alloc)?;
     let spool = spool_command(alloc)?;
@@ -292,6 +309,7 @@ fn command<'a>(alloc: Global) -> Result<Command<'a>, AllocError>
         .subcommand_required(true)
         .bin_name("mcv")?
         .subcommand(check)?
+        .subcommand(draw)?
         .subcommand(legs)?
         .subcommand(mend_command(alloc))?
         .subcommand(run)?
@@ -350,6 +368,14 @@ fn check_job<'a>(found: &ArgMatches<'a>) -> Result<Job<'a>, LineFault>
             quiet,
         },
     })
+}
+
+/// The job of `draw`, by what clap found for its options.
+fn draw_job<'a>(found: &ArgMatches<'a>) -> Job<'a>
+    ensures { IsDrawOf (rows_of (found_of found.now)) result }
+{
+    let dot = found.get_flag("dot");
+    Job::Draw { dot }
 }
 
 /// The job of `run`, by what clap found for its options.
@@ -412,6 +438,9 @@ pub fn read_words<'a>(alloc: Global, words: &'a [&'a str]) -> Result<Job<'a>, Li
             return Err(LineFault::BadLine);
         };
         return Ok(job);
+    }
+    if let Some(drawing) = matches.subcommand_matches("draw") {
+        return Ok(draw_job(drawing));
     }
     if let Some(_found) = matches.subcommand_matches("mend") {
         return Ok(Job::Mend);

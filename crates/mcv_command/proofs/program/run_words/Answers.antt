@@ -4,7 +4,7 @@ use Rattle.clap.specs.Words.{Text}
 use Rattle.mcv_command.specs.Program.{IsStop}
 use Rattle.mcv_command.specs.declared.stop.Stop.{Stop}
 use Rattle.mcv_command.specs.declared.stop.Stop.TheVariants.{Run}
-use Rattle.mcv_command.proofs.ProgramEnds.{judged_whole, judging_stop, listing_stop, mended_whole, mending_stop, run_is_whole, running_stop, silent_unless_json}
+use Rattle.mcv_command.proofs.ProgramEnds.{drawing_stop, judged_whole, judging_stop, listing_stop, mended_whole, mending_stop, run_is_whole, running_stop, silent_unless_json}
 use Rattle.mcv_words.specs.Words.{order_of, spool_order_of}
 use Rattle.mcv_command.proofs.program.run_words.Goals as goal
 
@@ -66,10 +66,31 @@ returns-in-Ok-Check-Some-default-clause-silent g c =
     let asks = rw (c.in-Ok-Check-Some-default.field-0-is, c.in-Ok-Check-Some-default.field-0-0-is) at c.in-Ok-Check-Some-default.ensures.job in
     silent_unless_json c.in-Ok-Check-Some-default.options.json c.judge_by.result _ (λ json. (Some c.in-Ok-Check-Some-default.name.now, c.in-Ok-Check-Some-default.options, asks, json)) c.judge_by.ensures.silent
 
+pub returns-in-Ok-Draw-clause-done : goal.returns-in-Ok-Draw-clause-done
+returns-in-Ok-Draw-clause-done g c =
+    let asks = rw c.in-Ok-Draw.field-0-is at c.in-Ok-Draw.ensures.job in
+    IfOk-weaker c.draw.result _ _ (λ ending drawn. inr (inr (inr (inl (c.in-Ok-Draw.dot, asks, drawn))))) c.draw.ensures.done
+
+pub returns-in-Ok-Draw-clause-stop : goal.returns-in-Ok-Draw-clause-stop
+returns-in-Ok-Draw-clause-stop g c =
+    let words : List Text = map (λ w. w.now) c.args.words.now in
+    let held = g.F.NamedFiles.held c.args.files.now in
+    let known = g.R.Read.remaining c.args.reader.now in
+    let asks = rw c.in-Ok-Draw.field-0-is at c.in-Ok-Draw.ensures.job in
+    IfErr-weaker c.draw.result _ _ (λ stop holds. drawing_stop words held known c.in-Ok-Draw.dot stop asks holds) (c.draw.ensures.stop held)
+
+pub returns-in-Ok-Draw-clause-silent : goal.returns-in-Ok-Draw-clause-silent
+returns-in-Ok-Draw-clause-silent g c = IfErr-weaker c.draw.result _ _ (λ stop silent no_device unasked unlisted unreported. silent no_device) c.draw.ensures.silent
+
+pub returns-in-Ok-Draw-clause-listed : goal.returns-in-Ok-Draw-clause-listed
+returns-in-Ok-Draw-clause-listed g c = λ slot is.
+    let held = g.F.NamedFiles.held c.args.files.now in
+    absurd (judged_whole _ held None 0 (g.R.Read.remaining c.args.reader.now) slot (c.draw.ensures.stop held) is)
+
 pub returns-in-Ok-Mend-clause-done : goal.returns-in-Ok-Mend-clause-done
 returns-in-Ok-Mend-clause-done g c =
     let asks = rw c.in-Ok-Mend.field-0-is at c.in-Ok-Mend.ensures.job in
-    IfOk-weaker c.mend.result _ _ (λ ending mended. inr (inr (inr (inl (asks, mended))))) c.mend.ensures.done
+    IfOk-weaker c.mend.result _ _ (λ ending mended. inr (inr (inr (inr (inl (asks, mended)))))) c.mend.ensures.done
 
 pub returns-in-Ok-Mend-clause-stop : goal.returns-in-Ok-Mend-clause-stop
 returns-in-Ok-Mend-clause-stop g c =
@@ -89,7 +110,7 @@ pub returns-in-Ok-Run-clause-done : goal.returns-in-Ok-Run-clause-done
 returns-in-Ok-Run-clause-done g c =
     let held = g.F.NamedFiles.held c.args.files.now in
     let asks = rw c.in-Ok-Run.field-0-is at c.in-Ok-Run.ensures.job in
-    IfOk-weaker c.serve.result _ _ (λ ending served. inr (inr (inr (inr (inl (order_of c.in-Ok-Run.options, asks, served)))))) (c.serve.ensures.done held)
+    IfOk-weaker c.serve.result _ _ (λ ending served. inr (inr (inr (inr (inr (inl (order_of c.in-Ok-Run.options, asks, served))))))) (c.serve.ensures.done held)
 
 pub returns-in-Ok-Run-clause-stop : goal.returns-in-Ok-Run-clause-stop
 returns-in-Ok-Run-clause-stop g c =
@@ -120,7 +141,7 @@ returns-in-Ok-Check-Some-default-clause-stop g c =
 pub returns-in-Ok-Spool-clause-done : goal.returns-in-Ok-Spool-clause-done
 returns-in-Ok-Spool-clause-done g c =
     let asks = rw c.in-Ok-Spool.field-0-is at c.in-Ok-Spool.ensures.job in
-    IfOk-weaker c.list_records.result _ _ (λ ending listed. inr (inr (inr (inr (inr (spool_order_of c.in-Ok-Spool.options, asks, listed.0, listed.1)))))) c.list_records.ensures.done
+    IfOk-weaker c.list_records.result _ _ (λ ending listed. inr (inr (inr (inr (inr (inr (spool_order_of c.in-Ok-Spool.options, asks, listed.0, listed.1))))))) c.list_records.ensures.done
 
 pub returns-in-Ok-Spool-clause-stop : goal.returns-in-Ok-Spool-clause-stop
 returns-in-Ok-Spool-clause-stop g c =

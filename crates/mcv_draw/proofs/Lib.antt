@@ -1,0 +1,6 @@
+pub mod Escaping
+pub mod DrawnApart
+pub mod ChildCounts
+pub mod HandlesInTurn
+pub mod LegsInOrder
+pub mod Marking

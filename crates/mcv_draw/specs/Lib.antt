@@ -1,0 +1,7 @@
+pub mod Drawn
+pub mod Markup
+pub mod Element
+pub mod Svg
+pub mod Dot
+pub mod Handles
+pub mod Marks
