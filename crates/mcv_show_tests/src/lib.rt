@@ -3,6 +3,8 @@
 #![tactic(auto)]
 
 #[cfg(test)]
+mod drawn;
+#[cfg(test)]
 mod explained;
 #[cfg(test)]
 mod reported;
