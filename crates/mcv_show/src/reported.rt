@@ -130,7 +130,7 @@ fn reported_of(
 {
     match judge(alloc, routes, certificate)? {
         Judged::Covered {
-            accepted: _,
+            accepted: _accepted,
             certificate: found,
         } => Ok(covered_output(alloc, document, &found)?),
         Judged::Lost { routes, finding } => {
