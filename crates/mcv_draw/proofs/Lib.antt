@@ -4,3 +4,4 @@ pub mod ChildCounts
 pub mod HandlesInTurn
 pub mod LegsInOrder
 pub mod Marking
+pub mod Labels

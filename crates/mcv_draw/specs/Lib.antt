@@ -5,3 +5,4 @@ pub mod Svg
 pub mod Dot
 pub mod Handles
 pub mod Marks
+pub mod Label
