@@ -1,22 +1,73 @@
 //! A client's connection, read and written by its session.
 
+ghost use Rattle.std.specs.Prelude.{◌+◌, ◌*◌, ◌<◌, ◌≤◌, IfSome};
+
 use crate::seats::Seat;
+use crate::service::Service;
 use mcv_words::ClientTimeout;
 use std::alloc::{AllocError, Global};
 use std::io;
-use std::io::{Read, Write};
+use std::io::{ErrorKind, Read, Write};
 use std::net::TcpStream;
 use std::sync::Arc;
 use std::time::Duration;
 
-/// A connection, and the seat that it takes.
+/// For how many milliseconds a client is waited for at a time, where an end may be asked for meanwhile.
+const TURN: u64 = 1000;
+
+/// How often a client is waited for, and for how many milliseconds each time; 0 for any.
+#[derive(Clone, Copy)]
+struct Patience {
+    times: u64,
+    millis: u64,
+}
+
+/// The turns of a timeout: together they take no longer than that, and a millisecond a turn less at most.
+fn turns(timeout: ClientTimeout) -> Patience
+    ensures some { 0 < result.millis }
+    ensures most { result.times * result.millis ≤ timeout.millis }
+    ensures least { timeout.millis < result.times * (result.millis + 1) }
+{
+    let times = timeout.millis / TURN + 1;
+    Patience {
+        times,
+        millis: timeout.millis / times,
+    }
+}
+
+/// How a client is waited for. Where no end may be asked for, that is once.
+fn patience(timeout: Option<ClientTimeout>, may_end: bool) -> Patience
+    ensures { IfSome timeout (λ t. (0 < result.millis) × (result.times * result.millis ≤ t.millis) × (t.millis < result.times * (result.millis + 1))) }
+{
+    match (timeout, may_end) {
+        (Some(timeout), true) => turns(timeout),
+        (Some(timeout), false) => Patience {
+            times: 1,
+            millis: timeout.millis,
+        },
+        (None, true) => Patience {
+            times: u64::MAX,
+            millis: TURN,
+        },
+        (None, false) => Patience {
+            times: 1,
+            millis: 0,
+        },
+    }
+}
+
+/// A connection, the seat that it takes, and where an end may be asked for.
 #[derive(Drop)]
 struct Seated {
     stream: TcpStream,
+    service: Service,
+    times: u64,
     _seat: Seat,
 }
 
 /// One end of a session's work on its client's connection, which is closed with the last end; then its seat is free.
+///
+/// Once an end was asked for, the client's input is at its end, and a client that takes nothing for a turn fails.
 #[derive(Drop)]
 pub struct Client {
     seated: Arc<Seated>,
@@ -30,16 +81,20 @@ impl Client {
         stream: TcpStream,
         seat: Seat,
         timeout: Option<ClientTimeout>,
+        service: Service,
     ) -> io::Result<(Client, Client)> {
         // Without it small writes may wait, but the connection serves all the same.
         let _ = stream.set_nodelay(true);
-        if let Some(timeout) = timeout {
-            let most = Some(Duration::from_millis(timeout.millis));
+        let patience = patience(timeout, service.is_asked());
+        if patience.millis > 0 {
+            let most = Some(Duration::from_millis(patience.millis));
             stream.set_read_timeout(most)?;
             stream.set_write_timeout(most)?;
         }
         let seated = Seated {
             stream,
+            service,
+            times: patience.times,
             _seat: seat,
         };
         let seated = Arc::new(alloc, seated).map_err(AllocError::from)?;
@@ -50,13 +105,29 @@ impl Client {
 
 impl Read for Client {
     fn read(&mut self, buf: &mut [u8]) -> io::Result<usize> {
-        (&self.seated.stream).read(buf)
+        for _turn in 0..self.seated.times {
+            if self.seated.service.is_ending() {
+                return Ok(0);
+            }
+            match (&self.seated.stream).read(buf) {
+                Err(error) if error.kind() == ErrorKind::WouldBlock => {}
+                outcome => return outcome,
+            }
+        }
+        Err(io::Error::from(ErrorKind::TimedOut))
     }
 }
 
 impl Write for Client {
     fn write(&mut self, buf: &[u8]) -> io::Result<usize> {
-        (&self.seated.stream).write(buf)
+        for _turn in 0..self.seated.times {
+            match (&self.seated.stream).write(buf) {
+                Err(error)
+                    if error.kind() == ErrorKind::WouldBlock && !self.seated.service.is_ending() => {}
+                outcome => return outcome,
+            }
+        }
+        Err(io::Error::from(ErrorKind::TimedOut))
     }
 
     fn flush(&mut self) -> io::Result<()> {

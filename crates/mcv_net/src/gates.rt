@@ -10,8 +10,9 @@ use crate::dial::TcpDial;
 use crate::fault::NetFault;
 use crate::lines::{listening_line, print_line};
 use crate::link::{Begun, TcpLink};
-use crate::notice::{Notice, Notices, StandardError};
+use crate::notice::{Notice, Notices, StandardError, Watched};
 use crate::seats::{Seat, Seats};
+use crate::service::Service;
 use crate::system_watch::SystemWatch;
 use mcv_proxy::{Gates, ProxyFault};
 use mcv_spool::Disk;
@@ -34,6 +35,8 @@ pub struct NetGates<'a, D: Disk, W: Write, R: Drop> {
     /// How many clients are still to be served; where that has no limit, more than come.
     sessions: u64,
     seats: Seats,
+    /// Where an operator may ask for an end.
+    service: Service,
     out: &'a mut W,
     /// Whether the last try to accept a client failed.
     is_deaf: bool,
@@ -43,7 +46,7 @@ pub struct NetGates<'a, D: Disk, W: Write, R: Drop> {
 const TOO_MANY: &[u8] = b"SERVER_ERROR too many clients\r\n";
 
 /// Whether a listener that failed so accepts clients later. One that isn't a listener never does.
-fn passes(kind: ErrorKind) -> bool {
+pub(crate) fn passes(kind: ErrorKind) -> bool {
     kind != ErrorKind::InvalidInput && kind != ErrorKind::Unsupported
 }
 
@@ -54,6 +57,7 @@ impl<'a, D: Disk, W: Write, R: Clock + Eprint + Copy + Drop> NetGates<'a, D, W, 
         listener: TcpListener,
         disk: D,
         settings: Settings,
+        service: Service,
         out: &'a mut W,
     ) -> Result<NetGates<'a, D, W, R>, AllocError> {
         let sessions = match settings.sessions {
@@ -69,6 +73,7 @@ impl<'a, D: Disk, W: Write, R: Clock + Eprint + Copy + Drop> NetGates<'a, D, W, 
             settings,
             sessions,
             seats,
+            service,
             out,
             is_deaf: false,
         })
@@ -93,13 +98,17 @@ impl<'a, D: Disk, W: Write, R: Clock + Eprint + Copy + Drop> NetGates<'a, D, W, 
         }
     }
 
-    /// The next connection of a client, once there is one, and None where none comes any more. Where one can't be accepted,
-    /// as while too many files are open, it tries again 10 ms later.
+    /// The next connection of a client, once there is one, and None where none comes any more or an end was asked for. Where
+    /// one can't be accepted, as while too many files are open, it tries again 10 ms later.
     fn next_stream(&mut self) -> Option<TcpStream>
         ensures { self.new.sessions ≡ self.old.sessions }
     {
         for _try in 0..u64::MAX {
-            match self.listener.accept() {
+            let accepted = self.listener.accept();
+            if self.service.is_ending() {
+                return None;
+            }
+            match accepted {
                 Ok((stream, _address)) => {
                     self.note_hearing(false);
                     return Some(stream);
@@ -172,12 +181,13 @@ where
 
     type Writer = Client;
 
-    type Watch = SystemWatch<R, StandardError<R>>;
+    type Watch = SystemWatch<R, Watched<R>>;
 
     fn link(&mut self, server: &str) -> Result<Self::Link, AllocError> {
         let dial = TcpDial {
             rt: self.rt,
             timeout: self.settings.server_timeout,
+            service: self.service.another(),
         };
         let notices = StandardError { rt: self.rt };
         TcpLink::new(self.alloc, server, dial, notices)
@@ -199,7 +209,9 @@ where
         for _try in 0..u64::MAX {
             self.sessions = self.sessions.checked_sub(1)?;
             let (stream, seat) = self.next_seated()?;
-            match Client::ends_of(self.alloc, stream, seat, self.settings.client_timeout) {
+            let timeout = self.settings.client_timeout;
+            let service = self.service.another();
+            match Client::ends_of(self.alloc, stream, seat, timeout, service) {
                 Ok(ends) => return Some(ends),
                 Err(_) => self.note(Notice::Unserved),
             }
@@ -208,7 +220,11 @@ where
     }
 
     fn watch(&mut self) -> Self::Watch {
-        SystemWatch::new(self.rt, StandardError { rt: self.rt })
+        let watched = Watched {
+            error: StandardError { rt: self.rt },
+            service: self.service.another(),
+        };
+        SystemWatch::new(self.rt, watched)
     }
 
     fn opened(&mut self, pending: usize) -> Result<(), ProxyFault>

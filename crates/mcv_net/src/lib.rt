@@ -4,6 +4,7 @@
 //! one by the options of a command line.
 #![tactic(auto)]
 
+mod admin;
 mod client;
 mod connection;
 mod dial;
@@ -16,6 +17,7 @@ mod loss;
 mod notice;
 mod run;
 mod seats;
+mod service;
 mod system_watch;
 
 pub use client::Client;
@@ -25,7 +27,8 @@ pub use fault::NetFault;
 pub use gates::NetGates;
 pub use link::TcpLink;
 pub use loss::{Loss, may_ask_again};
-pub use notice::{Notice, Notices, StandardError};
-pub use run::{SpoolFiles, listen, run_proxy, serve};
+pub use notice::{Notice, Notices, StandardError, Watched};
+pub use run::{Listeners, SpoolFiles, listen, run_proxy, serve};
 pub use seats::Seat;
+pub use service::Service;
 pub use system_watch::SystemWatch;

@@ -2,7 +2,7 @@
 
 use crate::links::accepted_of;
 use mcv_check::Accepted;
-use mcv_net::{SpoolFiles, listen, run_proxy};
+use mcv_net::{Listeners, SpoolFiles, listen, run_proxy};
 use mcv_words::{InRange, Proxies, ServerTimeout, Sessions, Settings, Window};
 use std::alloc::Global;
 use std::io::{Eprint, Read, Write};
@@ -146,7 +146,11 @@ where
     let client = client.expect(&rt, "a thread");
     let mut out = Vec::new(alloc);
     let disk = rt.open_spool(spool).expect(&rt, "a spool");
-    let ran = run_proxy(rt, alloc, accepted, listener, disk, settings, &mut out);
+    let listeners = Listeners {
+        clients: listener,
+        admin: None,
+    };
+    let ran = run_proxy(rt, alloc, accepted, listeners, disk, settings, &mut out);
     let is_answered = client.join(&rt);
     ran.is_ok() && is_answered && out.as_slice() == lines.as_bytes()
 }
