@@ -29,7 +29,8 @@ use std::time::Duration;
 pub struct NetGates<'a, D: Disk, W: Write, R: Drop> {
     rt: R,
     alloc: Global,
-    listener: TcpListener,
+    /// None once an end was asked for: who comes then is refused by the system.
+    listener: Option<TcpListener>,
     disk: Option<D>,
     settings: Settings,
     /// How many clients are still to be served; where that has no limit, more than come.
@@ -68,7 +69,7 @@ impl<'a, D: Disk, W: Write, R: Clock + Eprint + Copy + Drop> NetGates<'a, D, W, 
         Ok(NetGates {
             rt,
             alloc,
-            listener,
+            listener: Some(listener),
             disk: Some(disk),
             settings,
             sessions,
@@ -104,8 +105,9 @@ impl<'a, D: Disk, W: Write, R: Clock + Eprint + Copy + Drop> NetGates<'a, D, W, 
         ensures { self.new.sessions ≡ self.old.sessions }
     {
         for _try in 0..u64::MAX {
-            let accepted = self.listener.accept();
+            let accepted = self.listener.as_ref()?.accept();
             if self.service.is_ending() {
+                self.listener = None;
                 return None;
             }
             match accepted {
@@ -152,7 +154,10 @@ impl<'a, D: Disk, W: Write, R: Clock + Eprint + Copy + Drop> NetGates<'a, D, W, 
     fn print_listening(&mut self, pending: usize) -> Result<(), NetFault>
         ensures { OnOk result ((address : List ℕ) × Appends (W.contents self.old.out.now) (W.contents self.new.out.now) (listening_line address pending)) }
     {
-        let address = format!(in self.alloc; "{}", self.listener.local_addr()?)?;
+        let Some(listener) = &self.listener else {
+            return Err(NetFault::Device);
+        };
+        let address = format!(in self.alloc; "{}", listener.local_addr()?)?;
         let line = listening_line(self.alloc, address.as_str(), pending)?;
         print_line(self.out, line.as_slice())?;
         Ok(())
