@@ -137,7 +137,7 @@ def a_request_under_way_is_answered(machine):
         expect(asked(admin, "POST", "/drain?seconds=20"), (200, b"draining\n"))
         expect(idle.rest(), b"")
         expect(asked(admin, "GET", "/health"), (503, b"draining\n"))
-        expect(is_refused(mcv), True, "no further client is accepted")
+        wait_for(lambda: is_refused(mcv), "no further client is accepted")
         expect(asked(admin, "POST", "/drain?seconds=25"), (200, b"draining\n"))
         go.set()
         expect(client.rest(), b"DELETED\r\n")
