@@ -103,15 +103,23 @@ impl Client {
     }
 }
 
+/// Whether a read or a write came to nothing in its turn.
+fn waited(outcome: &io::Result<usize>) -> bool {
+    match outcome {
+        Ok(_) => false,
+        Err(error) => error.kind() == ErrorKind::WouldBlock,
+    }
+}
+
 impl Read for Client {
     fn read(&mut self, buf: &mut [u8]) -> io::Result<usize> {
         for _turn in 0..self.seated.times {
             if self.seated.service.is_ending() {
                 return Ok(0);
             }
-            match (&self.seated.stream).read(buf) {
-                Err(error) if error.kind() == ErrorKind::WouldBlock => {}
-                outcome => return outcome,
+            let outcome = (&self.seated.stream).read(buf);
+            if !waited(&outcome) {
+                return outcome;
             }
         }
         Err(io::Error::from(ErrorKind::TimedOut))
@@ -121,10 +129,9 @@ impl Read for Client {
 impl Write for Client {
     fn write(&mut self, buf: &[u8]) -> io::Result<usize> {
         for _turn in 0..self.seated.times {
-            match (&self.seated.stream).write(buf) {
-                Err(error)
-                    if error.kind() == ErrorKind::WouldBlock && !self.seated.service.is_ending() => {}
-                outcome => return outcome,
+            let outcome = (&self.seated.stream).write(buf);
+            if !waited(&outcome) || self.seated.service.is_ending() {
+                return outcome;
             }
         }
         Err(io::Error::from(ErrorKind::TimedOut))
