@@ -14,8 +14,8 @@ use std::thread;
 use std::thread::Threads;
 use std::time::{Duration, Instant};
 
-/// How long a request and its response may take.
-const TIME: Duration = Duration::from_secs(5);
+/// How many seconds a request and its response may take.
+const SECONDS: u64 = 5;
 
 /// What an operator may ask and change.
 #[derive(Drop)]
@@ -46,7 +46,8 @@ impl<R: Net<Stream = TcpStream> + Clock + Eprint + Copy + Drop> Panel for NetPan
             StandardError { rt: self.rt }.note(Notice::Draining(seconds));
         }
         // Who waits for clients sees only then that no more are accepted.
-        let _ = TcpStream::connect_timeout(&self.rt, &self.clients, TIME);
+        let most = Duration::from_secs(SECONDS);
+        let _ = TcpStream::connect_timeout(&self.rt, &self.clients, most);
     }
 }
 
@@ -63,7 +64,7 @@ fn answer<R: Net<Stream = TcpStream> + Clock + Eprint + Copy + Drop>(
     let Ok(other) = stream.try_clone() else {
         return;
     };
-    let until = now.checked_add(TIME);
+    let until = now.checked_add(Duration::from_secs(SECONDS));
     let mut reader = TcpConnection::new(rt, stream, until);
     let mut writer = TcpConnection::new(rt, other, until);
     let _ = serve_request(alloc, &mut reader, &mut writer, panel);
