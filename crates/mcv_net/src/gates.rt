@@ -24,6 +24,13 @@ use std::rt::Clock;
 use std::thread;
 use std::time::Duration;
 
+/// Where clients come, and where an operator may ask for an end.
+#[derive(Drop)]
+pub struct Entrance {
+    pub listener: TcpListener,
+    pub service: Service,
+}
+
 /// Clients that a listener accepts, servers over TCP, a disk, and the system's clock.
 #[derive(Drop)]
 pub struct NetGates<'a, D: Disk, W: Write, R: Drop> {
@@ -55,10 +62,9 @@ impl<'a, D: Disk, W: Write, R: Clock + Eprint + Copy + Drop> NetGates<'a, D, W, 
     pub fn new(
         rt: R,
         alloc: Global,
-        listener: TcpListener,
+        entrance: Entrance,
         disk: D,
         settings: Settings,
-        service: Service,
         out: &'a mut W,
     ) -> Result<NetGates<'a, D, W, R>, AllocError> {
         let sessions = match settings.sessions {
@@ -66,6 +72,7 @@ impl<'a, D: Disk, W: Write, R: Clock + Eprint + Copy + Drop> NetGates<'a, D, W, 
             None => u64::MAX,
         };
         let seats = Seats::new(alloc, settings.max_clients)?;
+        let Entrance { listener, service } = entrance;
         Ok(NetGates {
             rt,
             alloc,

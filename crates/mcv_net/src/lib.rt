@@ -24,7 +24,7 @@ pub use client::Client;
 pub use connection::{Connection, TcpConnection};
 pub use dial::{Dial, TcpDial};
 pub use fault::NetFault;
-pub use gates::NetGates;
+pub use gates::{Entrance, NetGates};
 pub use link::TcpLink;
 pub use loss::{Loss, may_ask_again};
 pub use notice::{Notice, Notices, StandardError, Watched};

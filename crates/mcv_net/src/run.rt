@@ -4,7 +4,7 @@ ghost use Rattle.std.specs.Prelude.{◌≡◌, IfErr};
 
 use crate::admin;
 use crate::fault::NetFault;
-use crate::gates::NetGates;
+use crate::gates::{Entrance, NetGates};
 use crate::lines::{closed_line, print_line};
 use crate::notice::{Notice, Notices, StandardError};
 use crate::service::Service;
@@ -63,8 +63,11 @@ where
         Some(listener) => admin::open(rt, alloc, listener, clients.local_addr()?)?,
         None => Service::unasked(),
     };
-    let known = service.another();
-    let gates = NetGates::new(rt, alloc, clients, disk, settings, known, &mut *out)?;
+    let entrance = Entrance {
+        listener: clients,
+        service: service.another(),
+    };
+    let gates = NetGates::new(rt, alloc, entrance, disk, settings, &mut *out)?;
     let report = start(rt, alloc, accepted, gates)?;
     if service.is_ending() {
         StandardError { rt }.note(Notice::Drained);
