@@ -1,7 +1,8 @@
 -- A request that comes piece by piece.
-use Rattle.std.proofs.Common.{◌≡◌, ◌∙◌, ◌+◌, ◌<◌, ◌≤◌, ℕ, List, [], ◌++◌, Option, None, Some, Result, length, take, min, refl, sym, ap, subst, arith, append-nil, length-append}
+use Rattle.std.proofs.Common.{◌≡◌, ◌≢◌, ◌∙◌, ◌+◌, ◌<◌, ◌≤◌, ℕ, Bool, true, false, List, [], ◌++◌, Option, None, Some, Result, length, take, min, refl, sym, ap, subst, arith, append-nil, length-append}
 use Rattle.std.proofs.KnownBytes.{Consumes-nil, Consumes-trans}
 use Rattle.std.proofs.lemmas.List.{length-take}
+use Rattle.std.specs.Prelude.{is_some}
 use Rattle.std.specs.Io.KnownBytes.{Consumes, IsAtEnd}
 use Rattle.mcv_http.proofs.Pieces.{take-take-append}
 use Rattle.mcv_http.specs.Reading.{IsAnswered, IsKnown, byte_limit}
@@ -70,3 +71,23 @@ ended_there unread between left reads held come none ended = record {
 pub enough_reads : (unread left : Option (List ℕ)) (reads : ℕ) (held : List ℕ) (known : Option (Result Request Refusal)) → HasCome unread left reads held known → reads ≤ byte_limit
 enough_reads unread left reads held known come =
     omega (arith, come.many, subst (λ (l : List ℕ). length l ≤ byte_limit) (sym come.kept) (omega (arith, length-take byte_limit come.bytes)))
+
+-- ---- by what is known
+
+pub still_none : (known : Option (Result Request Refusal)) → is_some known ≡ false → known ≡ None
+still_none None none = refl
+still_none (Some k) none = absurd (let apart : true ≡ false = none in cc)
+
+pub known_read : (unread left : Option (List ℕ)) (reads : ℕ) (held : List ℕ) (known : Option (Result Request Refusal)) → HasCome unread left reads held known → is_some known ≡ true
+    → IsRead unread left known
+known_read unread left reads held None come some = absurd (let apart : false ≡ true = some in cc)
+known_read unread left reads held (Some k) come some = is_read unread left reads held (Some k) come tt
+
+-- a read of so many bytes, of which there are some
+pub some_read : (count : ℕ) (room : List ℕ) → count ≢ 0 → count ≤ length room → 0 < length (take count room)
+some_read count room some within = omega (arith, length-take count room, some, within)
+
+-- what wasn't there was none
+pub none_left : (known : Option (Result Request Refusal)) → ((k : Result Request Refusal) → known ≡ Some k → ⊥) → known ≡ None
+none_left None other = refl
+none_left (Some k) other = absurd (other k refl)
