@@ -22,34 +22,42 @@ struct Patience {
     millis: u64,
 }
 
-/// The turns of a timeout: together they take no longer than that, and a millisecond a turn less at most.
-fn turns(timeout: ClientTimeout) -> Patience
+/// How often a client is waited for: where no end may be asked for, once.
+fn times_of(timeout: ClientTimeout, may_end: bool) -> u64
+    ensures some { 1 ≤ result }
+    ensures few { result ≤ timeout.millis }
+{
+    if may_end {
+        timeout.millis / TURN + 1
+    } else {
+        1
+    }
+}
+
+/// The turns of a timeout: together they take no longer than that, and less than a millisecond a turn less.
+fn turns(timeout: ClientTimeout, may_end: bool) -> Patience
     ensures some { 0 < result.millis }
     ensures most { result.times * result.millis ≤ timeout.millis }
     ensures least { timeout.millis < result.times * (result.millis + 1) }
 {
-    let times = timeout.millis / TURN + 1;
+    let times = times_of(timeout, may_end);
     Patience {
         times,
         millis: timeout.millis / times,
     }
 }
 
-/// How a client is waited for. Where no end may be asked for, that is once.
+/// How a client is waited for.
 fn patience(timeout: Option<ClientTimeout>, may_end: bool) -> Patience
     ensures { IfSome timeout (λ t. (0 < result.millis) × (result.times * result.millis ≤ t.millis) × (t.millis < result.times * (result.millis + 1))) }
 {
-    match (timeout, may_end) {
-        (Some(timeout), true) => turns(timeout),
-        (Some(timeout), false) => Patience {
-            times: 1,
-            millis: timeout.millis,
-        },
-        (None, true) => Patience {
+    match timeout {
+        Some(timeout) => turns(timeout, may_end),
+        None if may_end => Patience {
             times: u64::MAX,
             millis: TURN,
         },
-        (None, false) => Patience {
+        None => Patience {
             times: 1,
             millis: 0,
         },

@@ -1,7 +1,7 @@
 //! How a proxy serves, as an operator asks about it and ends it.
 
-ghost use Rattle.std.specs.Prelude.{◌≡◌, ◌+◌, ◌*◌, min, None, IfNone, IfSome, IsSome};
-ghost use Rattle.std.specs.Time.{instant_nanos};
+ghost use Rattle.std.specs.Prelude.{◌≡◌, ◌+◌, ◌*◌, min, None, IfNone};
+ghost use Rattle.mcv_net.specs.Service.{earlier, nearer};
 
 use mcv_admin::Health;
 use std::alloc::{AllocError, Global};
@@ -43,21 +43,19 @@ fn end_behind(millis: u64, seconds: u64) -> u64
     millis.saturating_add(more).min(NEVER - 1)
 }
 
+/// The earlier one of two moments.
+fn nearer(a: Instant, b: Instant) -> Instant
+    ensures { result ≡ nearer a b }
+{
+    if a.duration_since(b).is_zero() { a } else { b }
+}
+
 /// The earlier one of two moments, of which each may be missing.
 pub(crate) fn earlier(one: Option<Instant>, other: Option<Instant>) -> Option<Instant>
-    ensures other { IfNone one (result ≡ other) }
-    ensures one { IfNone other (result ≡ one) }
-    ensures both { IfSome one (λ a. IfSome other (λ b. IfSome result (λ least. instant_nanos least ≡ min (instant_nanos a) (instant_nanos b)))) }
-    ensures some { IfSome one (λ a. IfSome other (λ b. IsSome result)) }
+    ensures { result ≡ earlier one other }
 {
     match (one, other) {
-        (Some(a), Some(b)) => {
-            if a.duration_since(b).is_zero() {
-                Some(a)
-            } else {
-                Some(b)
-            }
-        }
+        (Some(a), Some(b)) => Some(nearer(a, b)),
         (Some(a), None) => Some(a),
         (None, other) => other,
     }
