@@ -37,7 +37,7 @@ fn millis_between(since: Instant, now: Instant) -> u64 {
 
 /// The end that is so many seconds behind so many milliseconds; it is one in any case.
 fn end_behind(millis: u64, seconds: u64) -> u64
-    ensures { result ≡ min (min (millis + min (seconds * 1000) 18446744073709551615) 18446744073709551615) 18446744073709551614 }
+    ensures { result ≡ min (millis + seconds * 1000) 18446744073709551614 }
 {
     let more = seconds.saturating_mul(1000);
     millis.saturating_add(more).min(NEVER - 1)
