@@ -87,7 +87,7 @@ fn attend<R: Net<Stream = TcpStream, Listener = TcpListener> + Clock + Eprint + 
 }
 
 /// Answers an operator at this listener from now on, while clients come to that address.
-pub(crate) fn open<R>(
+pub(crate) fn serve_operators<R>(
     rt: R,
     alloc: Global,
     listener: TcpListener,

@@ -2,7 +2,7 @@
 
 ghost use Rattle.std.specs.Prelude.{◌≡◌, IfErr};
 
-use crate::admin;
+use crate::admin::serve_operators;
 use crate::fault::NetFault;
 use crate::gates::{Entrance, NetGates};
 use crate::lines::{closed_line, print_line};
@@ -60,7 +60,7 @@ where
     }
     let Listeners { clients, admin } = listeners;
     let service = match admin {
-        Some(listener) => admin::open(rt, alloc, listener, clients.local_addr()?)?,
+        Some(listener) => serve_operators(rt, alloc, listener, clients.local_addr()?)?,
         None => Service::unasked(),
     };
     let entrance = Entrance {
