@@ -45,9 +45,17 @@ impl<R: Net<Stream = TcpStream> + Clock + Eprint + Copy + Drop> Panel for NetPan
         if self.service.end_within(now, seconds) {
             StandardError { rt: self.rt }.note(Notice::Draining(seconds));
         }
-        // Who waits for clients sees only then that no more are accepted.
-        let most = Duration::from_secs(SECONDS);
-        let _ = TcpStream::connect_timeout(&self.rt, &self.clients, most);
+    }
+}
+
+impl<R: Net<Stream = TcpStream> + Drop> NetPanel<R> {
+    /// Has who waits for clients see that an end was asked for. Whoever asked for it has the response by then, since the
+    /// program may end at once.
+    fn wake(&self) {
+        if self.service.is_ending() {
+            let most = Duration::from_secs(SECONDS);
+            let _ = TcpStream::connect_timeout(&self.rt, &self.clients, most);
+        }
     }
 }
 
@@ -79,7 +87,10 @@ fn attend<R: Net<Stream = TcpStream, Listener = TcpListener> + Clock + Eprint + 
 ) {
     for _connection in 0..u64::MAX {
         match listener.accept() {
-            Ok((stream, _address)) => answer(rt, alloc, stream, &mut panel),
+            Ok((stream, _address)) => {
+                answer(rt, alloc, stream, &mut panel);
+                panel.wake();
+            }
             Err(error) if passes(error.kind()) => thread::sleep(&rt, Duration::from_millis(10)),
             Err(_) => return,
         }
