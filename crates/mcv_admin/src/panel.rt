@@ -1,9 +1,11 @@
 //! What an operator asks about.
 
-ghost use Rattle.std.specs.Prelude.{◌≡◌};
+ghost use Rattle.std.specs.Prelude.{◌≡◌, IfOk};
 ghost use Rattle.mcv_admin.specs.Replies.{health_status, health_text};
 
 use mcv_http::Status;
+use mcv_metrics::Snapshot;
+use std::alloc::{AllocError, Global};
 
 /// Whether clients are served.
 #[derive(Clone, Copy, Debug, PartialEq, Eq)]
@@ -43,12 +45,20 @@ impl Health {
 pub trait Panel {
     ghost use Rattle.std.specs.Prelude.{ℕ};
     ghost use Rattle.mcv_admin.specs.declared.panel.Health.{Health};
+    ghost use Rattle.mcv_metrics.specs.declared.snapshot.Snapshot.{Snapshot};
+
+    /// What it may say that has been counted.
+    ghost has_counted: { Self → Snapshot → Type 0 };
 
     /// What it may say of its clients.
     ghost is_in: { Self → Health → Type 0 };
 
     /// It was asked to drain within so many seconds.
     ghost drains: { Self → ℕ → Self → Type 0 };
+
+    /// What has been counted up to now.
+    fn snapshot(&self, alloc: Global) -> Result<Snapshot, AllocError>
+        ensures { IfOk result (has_counted self.now) };
 
     /// Whether clients are served now.
     fn health(&self) -> Health

@@ -112,7 +112,7 @@ fn respond<O: Write, P: Panel>(
     panel: &mut P,
     known: Option<Result<Request, Refusal>>,
 ) -> Result<(), AdminFault>
-    ensures { OnOk result (IsAnswerTo P.is_in P.drains panel.old panel.new (O.contents writer.old) (O.contents writer.new) known) }
+    ensures { OnOk result (IsAnswerTo P.has_counted P.is_in P.drains panel.old panel.new (O.contents writer.old) (O.contents writer.new) known) }
 {
     let Some(request) = known else {
         return Ok(());
@@ -130,7 +130,7 @@ pub fn serve_request<I: Read, O: Write, P: Panel>(
     writer: &mut O,
     panel: &mut P,
 ) -> Result<(), AdminFault>
-    ensures { OnOk result (IsServed P.is_in P.drains panel.old panel.new (I.remaining reader.old) (I.remaining reader.new) (O.contents writer.old) (O.contents writer.new)) }
+    ensures { OnOk result (IsServed P.has_counted P.is_in P.drains panel.old panel.new (I.remaining reader.old) (I.remaining reader.new) (O.contents writer.old) (O.contents writer.new)) }
 {
     let known = next_request(alloc, reader)?;
     respond(alloc, writer, panel, known)?;

@@ -3,7 +3,8 @@
 ghost use Rattle.std.specs.Prelude.{⊤};
 
 use mcv_admin::{Health, Panel, serve_request};
-use std::alloc::Global;
+use mcv_metrics::{ClientCounts, Snapshot};
+use std::alloc::{AllocError, Global};
 use std::process::Abort;
 use std::test::Fail;
 
@@ -15,9 +16,21 @@ struct Kept {
 }
 
 impl Panel for Kept {
+    ghost has_counted = { λ _ _. ⊤ };
+
     ghost is_in = { λ _ _. ⊤ };
 
     ghost drains = { λ _ _ _. ⊤ };
+
+    fn snapshot(&self, alloc: Global) -> Result<Snapshot, AllocError> {
+        Ok(Snapshot {
+            servers: Vec::new(alloc),
+            clients: ClientCounts::default(),
+            refusing: 0,
+            uptime: 60,
+            version: 1,
+        })
+    }
 
     fn health(&self) -> Health {
         self.health
@@ -80,6 +93,18 @@ fn health_is_said(rt: HostRuntime) {
         "HTTP/1.1 503 Service Unavailable\r\nContent-Type: text/plain; charset=utf-8\r\nContent-Length: 26\r\nConnection: close\r\n\r\nthe spool refuses records\n",
         None,
     );
+}
+
+/// The length is that of the lines that `metrics.rt` looks at, where there is no server.
+#[test]
+fn what_was_counted_is_said(rt: HostRuntime) -> Result<(), Fail> {
+    let (written, asked) = served(&rt, Health::Draining, b"GET /metrics HTTP/1.1\r\n\r\n");
+    let text = std::str::from_utf8(written.as_slice())?;
+    let head = "HTTP/1.1 200 OK\r\nContent-Type: text/plain; version=0.0.4; charset=utf-8\r\nContent-Length: ";
+    assert!(rt; text.starts_with(head), "{text}");
+    assert!(rt; text.ends_with("\nmcv_build_info{version=\"1\"} 1\n"), "{text}");
+    assert_eq!(rt; asked, None);
+    Ok(())
 }
 
 #[test]

@@ -5,11 +5,11 @@ use Rattle.mcv_http.specs.Request.{answer}
 use Rattle.mcv_http.specs.Response.{response_text}
 use Rattle.mcv_http.specs.declared.request.Method.TheVariants.{Get}
 use Rattle.mcv_http.specs.declared.request.Refusal.TheVariants.{BadRequest, NotFound, MethodNotAllowed}
-use Rattle.mcv_http.specs.declared.request.Request.TheVariants.{Health, Drain}
+use Rattle.mcv_http.specs.declared.request.Request.TheVariants.{Metrics, Drain}
 use Rattle.mcv_http.specs.declared.response.Status.TheVariants.{Done}
 
-health : answer (codes "GET") (codes "/health?a=b") ≡ Ok Health
-health = refl
+metrics : answer (codes "GET") (codes "/metrics?a=b") ≡ Ok Metrics
+metrics = refl
 
 drain : answer (codes "POST") (codes "/drain?seconds=120") ≡ Ok (Drain 120)
 drain = refl
@@ -20,7 +20,7 @@ drain_for_thirty = refl
 no_number : answer (codes "POST") (codes "/drain?seconds=") ≡ Err BadRequest
 no_number = refl
 
-other_path : answer (codes "GET") (codes "/healthy") ≡ Err NotFound
+other_path : answer (codes "GET") (codes "/metric") ≡ Err NotFound
 other_path = refl
 
 other_method : answer (codes "HEAD") (codes "/health") ≡ Err (MethodNotAllowed Get)

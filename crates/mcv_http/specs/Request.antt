@@ -12,7 +12,7 @@ use Rattle.mcv_http.specs.declared.request.Request.TheVariants as requests
 use Rattle.mcv_http.specs.declared.request.Refusal.{Refusal}
 use Rattle.mcv_http.specs.declared.request.Refusal.TheVariants.{BadRequest, NotFound, MethodNotAllowed}
 use Rattle.mcv_http.specs.declared.request.Resource.{Resource}
-use Rattle.mcv_http.specs.declared.request.Resource.TheVariants.{Health, Drain}
+use Rattle.mcv_http.specs.declared.request.Resource.TheVariants.{Metrics, Health, Drain}
 
 abbrev pub method_word : Method → List ℕ
 method_word Get = codes "GET"
@@ -20,11 +20,13 @@ method_word Post = codes "POST"
 
 abbrev pub resource_at : List ℕ → Option Resource
 resource_at path =
-    if bytes_eq path (codes "/health") then Some Health
+    if bytes_eq path (codes "/metrics") then Some Metrics
+    else if bytes_eq path (codes "/health") then Some Health
     else if bytes_eq path (codes "/drain") then Some Drain else None
 
 -- the one method that it has
 abbrev pub method_of : Resource → Method
+method_of Metrics = Get
 method_of Health = Get
 method_of Drain = Post
 
@@ -44,6 +46,7 @@ drain_of (Some seconds) = Ok (requests.Drain seconds)
 
 -- what is asked of it with this query, which only a drain looks at
 abbrev pub request_for : Resource → List ℕ → Result Request Refusal
+request_for Metrics query = Ok requests.Metrics
 request_for Health query = Ok requests.Health
 request_for Drain query = drain_of (seconds_of query)
 

@@ -18,6 +18,8 @@ pub enum Method {
 /// What a request asks for.
 #[derive(Clone, Copy, Debug, PartialEq, Eq)]
 pub enum Request {
+    /// What has been counted.
+    Metrics,
     /// Whether clients are accepted.
     Health,
     /// To accept no more clients, and to end within so many seconds.
@@ -40,6 +42,7 @@ pub enum Refusal {
 /// What is at a path.
 #[derive(Clone, Copy)]
 enum Resource {
+    Metrics,
     Health,
     Drain,
 }
@@ -62,7 +65,9 @@ impl Resource {
     fn at(path: &[u8]) -> Option<Resource>
         ensures { result ≡ resource_at path.now }
     {
-        if path == b"/health".as_slice() {
+        if path == b"/metrics".as_slice() {
+            Some(Resource::Metrics)
+        } else if path == b"/health".as_slice() {
             Some(Resource::Health)
         } else if path == b"/drain".as_slice() {
             Some(Resource::Drain)
@@ -75,7 +80,7 @@ impl Resource {
         ensures { result ≡ method_of self }
     {
         match self {
-            Resource::Health => Method::Get,
+            Resource::Metrics | Resource::Health => Method::Get,
             Resource::Drain => Method::Post,
         }
     }
@@ -84,6 +89,7 @@ impl Resource {
         ensures { result ≡ request_for self query.now }
     {
         match self {
+            Resource::Metrics => Ok(Request::Metrics),
             Resource::Health => Ok(Request::Health),
             Resource::Drain => match seconds(query) {
                 Some(seconds) => Ok(Request::Drain(seconds)),
