@@ -1,6 +1,5 @@
 //! The text of what is counted, line by line.
 
-use mcv_base::ServerText;
 use mcv_metrics::{ClientCounts, ServerCounts, Snapshot, metrics_text};
 use std::alloc::Global;
 use std::test::Fail;
@@ -39,9 +38,9 @@ mcv_build_info{version=\"1\"} 1
 ";
 
 /// A server of which nothing was counted.
-fn unasked(server: &[u8]) -> Result<ServerCounts, Fail> {
+fn unasked(alloc: Global, server: &str) -> Result<ServerCounts, Fail> {
     Ok(ServerCounts {
-        server: ServerText::of(server).ok_or("a server")?,
+        server: String::from_str(alloc, server)?,
         sent: 0,
         lost: 0,
         marked: 0,
@@ -54,9 +53,9 @@ fn counts(alloc: Global) -> Result<Snapshot, Fail> {
         sent: 70,
         lost: 1,
         marked: 2,
-        ..unasked(b"a:11211")?
+        ..unasked(alloc, "a:11211")?
     })?;
-    servers.push(unasked(b"[::1]:11211")?)?;
+    servers.push(unasked(alloc, "[::1]:11211")?)?;
     Ok(Snapshot {
         servers,
         clients: ClientCounts {

@@ -1,6 +1,6 @@
 -- The text of a snapshot in Prometheus' format, version 0.0.4 (prometheus.io/docs/instrumenting/exposition_formats,
 -- "Text-based format"): for each family a line of help, a line of its type, and a line for each sample.
-use Rattle.std.specs.Prelude.{ℕ, ◌==◌, List, [], ◌∷◌, ◌++◌, if◌then◌else◌, codes, decimal}
+use Rattle.std.specs.Prelude.{ℕ, ◌==◌, List, [], ◌∷◌, ◌++◌, if◌then◌else◌, codes, decimal, string_bytes}
 use Rattle.std.specs.List.{flat_map}
 use Rattle.mcv_metrics.specs.Counts.{client_count, server_count}
 use Rattle.mcv_metrics.specs.Metrics.{kind_name, metric_help, metric_kind, metric_name, metrics}
@@ -27,7 +27,7 @@ labelled name label value number = plain (name ++ codes "{" ++ label ++ codes "=
 
 -- one sample of a family that speaks of each server
 abbrev pub server_sample : ServerMetric → ServerCounts → List ℕ
-server_sample m counts = labelled (metric_name (Servers m)) (codes "server") counts.server (server_count counts m)
+server_sample m counts = labelled (metric_name (Servers m)) (codes "server") (string_bytes counts.server) (server_count counts m)
 
 -- the samples of a family
 abbrev pub samples : Snapshot → Metric → List ℕ

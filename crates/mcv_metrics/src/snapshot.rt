@@ -4,13 +4,12 @@ ghost use Rattle.std.specs.Prelude.{◌≡◌};
 ghost use Rattle.mcv_metrics.specs.Counts.{client_count, server_count};
 
 use crate::metric::{ClientMetric, ServerMetric};
-use mcv_base::ServerText;
 
 /// What is counted of one server.
 #[derive(Drop)]
 pub struct ServerCounts {
     /// Its text, `host:port`.
-    pub server: ServerText,
+    pub server: String,
     /// Legs begun, in all.
     pub sent: u64,
     /// Legs of these that got no reply, in all.

@@ -6,7 +6,10 @@ use crate::gates::passes;
 use crate::notice::{Notice, Notices, StandardError};
 use crate::service::Service;
 use mcv_admin::{Health, Panel, serve_request};
-use std::alloc::Global;
+use mcv_check::Accepted;
+use mcv_metrics::Snapshot;
+use mcv_tally::Tally;
+use std::alloc::{AllocError, Global};
 use std::io::Eprint;
 use std::net::{Net, SocketAddr, TcpListener, TcpStream};
 use std::rt::Clock;
@@ -32,9 +35,16 @@ impl<R: Net<Stream = TcpStream> + Clock + Eprint + Copy + Drop> Panel for NetPan
     ghost use Rattle.std.specs.Prelude.{⊤};
 
     // Other threads change what is said.
+    ghost has_counted = { λ _ _. ⊤ };
+
     ghost is_in = { λ _ _. ⊤ };
 
     ghost drains = { λ _ _ _. ⊤ };
+
+    fn snapshot(&self, alloc: Global) -> Result<Snapshot, AllocError> {
+        let now = Instant::now(&self.rt).unwrap_or(self.since);
+        self.service.snapshot(alloc, now)
+    }
 
     fn health(&self) -> Health {
         self.service.health()
@@ -101,6 +111,7 @@ fn attend<R: Net<Stream = TcpStream, Listener = TcpListener> + Clock + Eprint + 
 pub(crate) fn serve_operators<R>(
     rt: R,
     alloc: Global,
+    accepted: &Accepted,
     listener: TcpListener,
     clients: SocketAddr,
 ) -> Result<Service, NetFault>
@@ -115,7 +126,8 @@ where
         + 'static,
 {
     let since = Instant::now(&rt)?;
-    let service = Service::new(alloc, since)?;
+    let tally = Tally::new(alloc, accepted.routes().servers())?;
+    let service = Service::new(alloc, since, tally)?;
     let panel = NetPanel {
         rt,
         service: service.another(),

@@ -64,13 +64,38 @@ fn patience(timeout: Option<ClientTimeout>, may_end: bool) -> Patience
     }
 }
 
-/// A connection, the seat that it takes, and where an end may be asked for.
-#[derive(Drop)]
+/// A connection, the seat that it takes, and where an end may be asked for. It is counted as a client while it is there.
 struct Seated {
     stream: TcpStream,
     service: Service,
     times: u64,
-    _seat: Seat,
+    seat: Seat,
+}
+
+impl Seated {
+    fn new(stream: TcpStream, seat: Seat, service: Service, times: u64) -> Seated {
+        service.note_accepted();
+        Seated {
+            stream,
+            service,
+            times,
+            seat,
+        }
+    }
+}
+
+impl Drop for Seated {
+    fn drop(self) {
+        let Seated {
+            stream,
+            service,
+            times: _,
+            seat,
+        } = self;
+        drop(stream);
+        drop(seat);
+        service.note_gone();
+    }
 }
 
 /// One end of a session's work on its client's connection, which is closed with the last end; then its seat is free.
@@ -99,12 +124,7 @@ impl Client {
             stream.set_read_timeout(most)?;
             stream.set_write_timeout(most)?;
         }
-        let seated = Seated {
-            stream,
-            service,
-            times: patience.times,
-            _seat: seat,
-        };
+        let seated = Seated::new(stream, seat, service, patience.times);
         let seated = Arc::new(alloc, seated).map_err(AllocError::from)?;
         let other = Arc::try_clone(&seated)?;
         Ok((Client { seated }, Client { seated: other }))

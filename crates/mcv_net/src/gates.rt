@@ -14,21 +14,25 @@ use crate::notice::{Notice, Notices, StandardError, Watched};
 use crate::seats::{Seat, Seats};
 use crate::service::Service;
 use crate::system_watch::SystemWatch;
+use mcv_check::Accepted;
 use mcv_proxy::{Gates, ProxyFault};
 use mcv_spool::Disk;
+use mcv_tally::{CountedLink, CountedServer};
 use mcv_words::Settings;
 use std::alloc::{AllocError, Global};
 use std::io::{Eprint, ErrorKind, Write};
 use std::net::{Net, TcpListener, TcpStream};
 use std::rt::Clock;
+use std::sync::Arc;
 use std::thread;
 use std::time::Duration;
 
-/// Where clients come, and where an operator may ask for an end.
+/// Where clients come, where an operator may ask, and by what they are served.
 #[derive(Drop)]
 pub struct Entrance {
     pub listener: TcpListener,
     pub service: Service,
+    pub accepted: Arc<Accepted>,
 }
 
 /// Clients that a listener accepts, servers over TCP, a disk, and the system's clock.
@@ -45,6 +49,8 @@ pub struct NetGates<'a, D: Disk, W: Write, R: Drop> {
     seats: Seats,
     /// Where an operator may ask for an end.
     service: Service,
+    /// Whose servers have the numbers by which their legs are counted.
+    accepted: Arc<Accepted>,
     out: &'a mut W,
     /// Whether the last try to accept a client failed.
     is_deaf: bool,
@@ -72,7 +78,11 @@ impl<'a, D: Disk, W: Write, R: Clock + Eprint + Copy + Drop> NetGates<'a, D, W, 
             None => u64::MAX,
         };
         let seats = Seats::new(alloc, settings.max_clients)?;
-        let Entrance { listener, service } = entrance;
+        let Entrance {
+            listener,
+            service,
+            accepted,
+        } = entrance;
         Ok(NetGates {
             rt,
             alloc,
@@ -82,6 +92,7 @@ impl<'a, D: Disk, W: Write, R: Clock + Eprint + Copy + Drop> NetGates<'a, D, W, 
             sessions,
             seats,
             service,
+            accepted,
             out,
             is_deaf: false,
         })
@@ -136,6 +147,7 @@ impl<'a, D: Disk, W: Write, R: Clock + Eprint + Copy + Drop> NetGates<'a, D, W, 
     fn refuse(&mut self, stream: TcpStream)
         ensures { self.new.sessions ≡ self.old.sessions }
     {
+        self.service.note_refused();
         if let Some(refused) = self.seats.refuse() {
             self.note(Notice::Crowded(refused));
         }
@@ -155,6 +167,16 @@ impl<'a, D: Disk, W: Write, R: Clock + Eprint + Copy + Drop> NetGates<'a, D, W, 
             }
         }
         None
+    }
+
+    /// Where the legs to the server of this text are counted, if they are.
+    fn counted(&self, server: &str) -> Option<CountedServer> {
+        let tally = self.service.tally()?;
+        let id = self.accepted.routes().servers().find(server)?;
+        Some(CountedServer {
+            tally,
+            number: id.0 as usize,
+        })
     }
 
     /// Prints the line that says where clients may come, and how many records are pending.
@@ -185,7 +207,7 @@ where
 {
     type Begun = Option<Begun<TcpConnection<R>>>;
 
-    type Link = TcpLink<TcpDial<R>, StandardError<R>>;
+    type Link = CountedLink<TcpLink<TcpDial<R>, StandardError<R>>>;
 
     type Disk = D;
 
@@ -202,7 +224,8 @@ where
             service: self.service.another(),
         };
         let notices = StandardError { rt: self.rt };
-        TcpLink::new(self.alloc, server, dial, notices)
+        let link = TcpLink::new(self.alloc, server, dial, notices)?;
+        Ok(CountedLink::new(link, self.counted(server)))
     }
 
     fn hubs(&self) -> usize

@@ -60,12 +60,15 @@ where
     }
     let Listeners { clients, admin } = listeners;
     let service = match admin {
-        Some(listener) => serve_operators(rt, alloc, listener, clients.local_addr()?)?,
+        Some(listener) => {
+            serve_operators(rt, alloc, &accepted, listener, clients.local_addr()?)?
+        }
         None => Service::unasked(),
     };
     let entrance = Entrance {
         listener: clients,
         service: service.another(),
+        accepted: Arc::try_clone(&accepted)?,
     };
     let gates = NetGates::new(rt, alloc, entrance, disk, settings, &mut *out)?;
     let report = start(rt, alloc, accepted, gates)?;

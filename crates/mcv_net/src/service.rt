@@ -1,9 +1,13 @@
 //! How a proxy serves, as an operator asks about it and ends it.
 
-ghost use Rattle.std.specs.Prelude.{◌≡◌, ◌+◌, ◌*◌, min, None, IfNone};
+ghost use Rattle.std.specs.Prelude.{◌≡◌, ◌+◌, ◌*◌, min, None, IfNone, IfOk};
+ghost use Rattle.std.specs.Arc.{arc_value};
+ghost use Rattle.mcv_tally.specs.Tally.{listed, tallied};
 ghost use Rattle.mcv_net.specs.Service.{earlier, nearer};
 
 use mcv_admin::Health;
+use mcv_metrics::{ClientCounts, Snapshot};
+use mcv_tally::Tally;
 use std::alloc::{AllocError, Global};
 use std::sync::Arc;
 use std::sync::atomic::{AtomicU64, Ordering};
@@ -11,6 +15,9 @@ use std::time::{Duration, Instant};
 
 /// By when all has to be done where no end was asked for.
 const NEVER: u64 = u64::MAX;
+
+/// The version of the program, as `mcv --version` says it.
+const VERSION: u64 = 1;
 
 /// What the threads of a proxy share. Each of them may change it at any moment, so that no clause says what it is.
 #[derive(Drop)]
@@ -21,6 +28,7 @@ struct State {
     until: AtomicU64,
     /// How many hubs have a spool that refuses records.
     refusing: AtomicU64,
+    tally: Arc<Tally>,
 }
 
 /// Whether clients are accepted, and whether the spool takes records, as one thread of a proxy sees it. Where no operator
@@ -85,6 +93,19 @@ impl State {
             Health::Serving
         }
     }
+
+    /// What has been counted up to this moment.
+    fn snapshot(&self, alloc: Global, now: Instant) -> Result<Snapshot, AllocError>
+        ensures { IfOk result (λ s. (s.version ≡ VERSION) × (listed s.servers.items ≡ tallied (arc_value self.now.tally).servers.items)) }
+    {
+        Ok(Snapshot {
+            servers: self.tally.servers(alloc)?,
+            clients: self.tally.clients.counts(),
+            refusing: self.refusing.load(Ordering::SeqCst),
+            uptime: now.duration_since(self.since).as_secs(),
+            version: VERSION,
+        })
+    }
 }
 
 impl Service {
@@ -93,12 +114,13 @@ impl Service {
         Service { state: None }
     }
 
-    /// Clients are accepted from this moment on, and the spool takes records.
-    pub fn new(alloc: Global, since: Instant) -> Result<Service, AllocError> {
+    /// Clients are accepted from this moment on, and the spool takes records. What happens is counted in the tally.
+    pub fn new(alloc: Global, since: Instant, tally: Tally) -> Result<Service, AllocError> {
         let state = State {
             since,
             until: AtomicU64::new(NEVER),
             refusing: AtomicU64::new(0),
+            tally: Arc::new(alloc, tally)?,
         };
         Ok(Service {
             state: Some(Arc::new(alloc, state)?),
@@ -158,6 +180,51 @@ impl Service {
     pub fn note_taking(&self) {
         if let Some(state) = &self.state {
             let _before = state.refusing.fetch_sub(1, Ordering::SeqCst);
+        }
+    }
+
+    /// Where it is counted what happens; None where no operator may ask.
+    pub fn tally(&self) -> Option<Arc<Tally>> {
+        match &self.state {
+            Some(state) => Arc::try_clone(&state.tally).ok(),
+            None => None,
+        }
+    }
+
+    /// One client more was accepted.
+    pub fn note_accepted(&self) {
+        if let Some(state) = &self.state {
+            state.tally.clients.accepted.more();
+        }
+    }
+
+    /// One that was accepted is gone.
+    pub fn note_gone(&self) {
+        if let Some(state) = &self.state {
+            state.tally.clients.gone.more();
+        }
+    }
+
+    /// One client more was refused.
+    pub fn note_refused(&self) {
+        if let Some(state) = &self.state {
+            state.tally.clients.refused.more();
+        }
+    }
+
+    /// What has been counted up to this moment; of nothing where no operator may ask.
+    pub fn snapshot(&self, alloc: Global, now: Instant) -> Result<Snapshot, AllocError>
+        ensures { IfOk result (λ s. s.version ≡ VERSION) }
+    {
+        match &self.state {
+            Some(state) => state.snapshot(alloc, now),
+            None => Ok(Snapshot {
+                servers: Vec::new(alloc),
+                clients: ClientCounts::default(),
+                refusing: 0,
+                uptime: 0,
+                version: VERSION,
+            }),
         }
     }
 

@@ -1,129 +1,132 @@
 //! The numbers of a proxy.
 
-use crate::counter::Counter;
-use mcv_base::{Op, Outcome};
-use mcv_metrics::{OperationCounts, OutcomeCounts, RefusalCounts};
-use mcv_session::DeskFault;
+ghost use Rattle.std.specs.Prelude.{◌≡◌, ◌<◌, IfOk, Some, length, slice_get, string_bytes};
+ghost use Rattle.mcv_tally.specs.Tally.{listed, tallied};
+
+use crate::count::Count;
+use mcv_base::ServerId;
+use mcv_metrics::{ClientCounts, ServerCounts};
+use mcv_pools::Servers;
 use std::alloc::{AllocError, Global};
 
 /// What is counted of one server.
 #[derive(Drop)]
 pub struct ServerTally {
-    /// Legs sent to it.
-    pub sent: Counter,
-    /// Legs of which the connection was lost before their reply.
-    pub lost: Counter,
-    /// How often it was marked, and how often it answered again behind that.
-    pub marked: Counter,
-    pub unmarked: Counter,
+    server: String,
+    /// Legs begun.
+    pub sent: Count,
+    /// Legs of these that got no reply.
+    pub lost: Count,
+    /// How often a proxy marked it.
+    pub marked: Count,
+    /// How often it answered such a proxy again.
+    pub unmarked: Count,
 }
 
-/// What is counted by operation.
+/// What is counted of clients.
 #[derive(Drop)]
-struct OperationTally {
-    get: Counter,
-    gets: Counter,
-    set: Counter,
-    add: Counter,
-    replace: Counter,
-    append: Counter,
-    prepend: Counter,
-    cas: Counter,
-    delete: Counter,
-    touch: Counter,
-    incr: Counter,
-    decr: Counter,
+pub struct ClientTally {
+    pub accepted: Count,
+    /// Those of them that are gone.
+    pub gone: Count,
+    pub refused: Count,
 }
 
 /// What is counted while a proxy runs.
 #[derive(Drop)]
 pub struct Tally {
-    calls: OperationTally,
-    good: Counter,
-    soft: Counter,
-    error: Counter,
-    no_route: Counter,
-    bad_key: Counter,
-    busy: Counter,
-    memory: Counter,
     /// In the order of the servers' numbers.
     servers: Vec<ServerTally>,
-    /// Clients accepted, and those of them that are gone.
-    pub accepted: Counter,
-    pub gone: Counter,
+    pub clients: ClientTally,
+}
+
+/// How much later and more often one thing happened than what comes behind it. That is read first, so that none of the
+/// latter is counted whose former isn't.
+fn left(before: &Count, behind: &Count) -> u64 {
+    let behind = behind.now();
+    before.now().saturating_sub(behind)
 }
 
 impl ServerTally {
-    fn new() -> ServerTally {
+    fn new(server: String) -> ServerTally
+        ensures { result.server ≡ server }
+    {
         ServerTally {
-            sent: Counter::new(),
-            lost: Counter::new(),
-            marked: Counter::new(),
-            unmarked: Counter::new(),
+            server,
+            sent: Count::new(),
+            lost: Count::new(),
+            marked: Count::new(),
+            unmarked: Count::new(),
         }
     }
 
-    /// Whether it is marked: it was so more often than it answered again.
-    pub fn is_marked(&self) -> bool {
-        self.marked.now() > self.unmarked.now()
+    /// What was counted of it up to now.
+    fn counts(&self, alloc: Global) -> Result<ServerCounts, AllocError>
+        ensures { IfOk result (λ counts. string_bytes counts.server ≡ string_bytes self.now.server) }
+    {
+        let server = String::from_str(alloc, self.server.as_str())?;
+        // Those that are lost first: each of them was begun.
+        let lost = self.lost.now();
+        Ok(ServerCounts {
+            server,
+            sent: self.sent.now(),
+            lost,
+            marked: left(&self.marked, &self.unmarked),
+        })
     }
 }
 
-impl OperationTally {
-    fn new() -> OperationTally {
-        OperationTally {
-            get: Counter::new(),
-            gets: Counter::new(),
-            set: Counter::new(),
-            add: Counter::new(),
-            replace: Counter::new(),
-            append: Counter::new(),
-            prepend: Counter::new(),
-            cas: Counter::new(),
-            delete: Counter::new(),
-            touch: Counter::new(),
-            incr: Counter::new(),
-            decr: Counter::new(),
+impl ClientTally {
+    fn new() -> ClientTally {
+        ClientTally {
+            accepted: Count::new(),
+            gone: Count::new(),
+            refused: Count::new(),
         }
     }
 
-    fn of(&self, op: Op) -> &Counter {
-        match op {
-            Op::Get => &self.get,
-            Op::Gets => &self.gets,
-            Op::Set => &self.set,
-            Op::Add => &self.add,
-            Op::Replace => &self.replace,
-            Op::Append => &self.append,
-            Op::Prepend => &self.prepend,
-            Op::Cas => &self.cas,
-            Op::Delete => &self.delete,
-            Op::Touch => &self.touch,
-            Op::Incr => &self.incr,
-            Op::Decr => &self.decr,
+    /// What was counted of them up to now.
+    pub fn counts(&self) -> ClientCounts {
+        ClientCounts {
+            connected: left(&self.accepted, &self.gone),
+            accepted: self.accepted.now(),
+            refused: self.refused.now(),
         }
     }
+}
+
+/// The text of the server of this number.
+fn text_of(servers: &Servers, id: ServerId) -> &str
+    requires { id.0 < length servers.now }
+    ensures { slice_get servers.now id.0 ≡ Some result.now }
+{
+    match servers.text(id) {
+        Some(text) => text,
+        None => unreachable!(),
+    }
+}
+
+/// Nothing yet, of each of these servers.
+fn tallies_of(alloc: Global, servers: &Servers) -> Result<Vec<ServerTally>, AllocError>
+    ensures { IfOk result (λ tallies. tallied tallies.items ≡ servers.now) }
+{
+    let mut tallies = Vec::new(alloc);
+    for number in 0..servers.len() {
+        let text = text_of(servers, ServerId(number as u32));
+        let server = String::from_str(alloc, text)?;
+        tallies.push(ServerTally::new(server))?;
+    }
+    Ok(tallies)
 }
 
 impl Tally {
-    /// Nothing yet, of so many servers.
-    pub fn new(alloc: Global, servers: usize) -> Result<Tally, AllocError> {
-        let mut tallies = Vec::new(alloc);
-        for _server in 0..servers {
-            tallies.push(ServerTally::new())?;
-        }
+    /// Nothing yet, of these servers and of no clients.
+    pub fn new(alloc: Global, servers: &Servers) -> Result<Tally, AllocError>
+        ensures { IfOk result (λ tally. tallied tally.servers.items ≡ servers.now) }
+    {
         Ok(Tally {
-            calls: OperationTally::new(),
-            good: Counter::new(),
-            soft: Counter::new(),
-            error: Counter::new(),
-            no_route: Counter::new(),
-            bad_key: Counter::new(),
-            busy: Counter::new(),
-            memory: Counter::new(),
-            servers: tallies,
-            accepted: Counter::new(),
-            gone: Counter::new(),
+            servers: tallies_of(alloc, servers)?,
+            clients: ClientTally::new(),
         })
     }
 
@@ -132,62 +135,14 @@ impl Tally {
         self.servers.get(number)
     }
 
-    /// So many keys were asked for by this operation, and answered.
-    pub(crate) fn called(&self, op: Op, keys: usize) {
-        self.calls.of(op).add(keys as u64);
-    }
-
-    pub(crate) fn replied(&self, outcome: Outcome) {
-        match outcome {
-            Outcome::Good => self.good.add(1),
-            Outcome::Soft => self.soft.add(1),
-            Outcome::Error => self.error.add(1),
+    /// What was counted of each server up to now, in the order of their numbers.
+    pub fn servers(&self, alloc: Global) -> Result<Vec<ServerCounts>, AllocError>
+        ensures { IfOk result (λ counts. listed counts.items ≡ tallied self.now.servers.items) }
+    {
+        let mut counts = Vec::new(alloc);
+        for server in &self.servers {
+            counts.push(server.counts(alloc)?)?;
         }
-    }
-
-    pub(crate) fn refused(&self, fault: DeskFault) {
-        match fault {
-            DeskFault::NoRoute => self.no_route.add(1),
-            DeskFault::BadKey => self.bad_key.add(1),
-            DeskFault::Busy => self.busy.add(1),
-            DeskFault::Memory => self.memory.add(1),
-        }
-    }
-
-    /// The keys that were answered, by operation.
-    pub fn operations(&self) -> OperationCounts {
-        OperationCounts {
-            get: self.calls.get.now(),
-            gets: self.calls.gets.now(),
-            set: self.calls.set.now(),
-            add: self.calls.add.now(),
-            replace: self.calls.replace.now(),
-            append: self.calls.append.now(),
-            prepend: self.calls.prepend.now(),
-            cas: self.calls.cas.now(),
-            delete: self.calls.delete.now(),
-            touch: self.calls.touch.now(),
-            incr: self.calls.incr.now(),
-            decr: self.calls.decr.now(),
-        }
-    }
-
-    /// The replies, by what they amount to.
-    pub fn outcomes(&self) -> OutcomeCounts {
-        OutcomeCounts {
-            good: self.good.now(),
-            soft: self.soft.now(),
-            error: self.error.now(),
-        }
-    }
-
-    /// The requests refused, by why.
-    pub fn refusals(&self) -> RefusalCounts {
-        RefusalCounts {
-            busy: self.busy.now(),
-            no_route: self.no_route.now(),
-            bad_key: self.bad_key.now(),
-            memory: self.memory.now(),
-        }
+        Ok(counts)
     }
 }
