@@ -12,7 +12,8 @@ use std::alloc::{AllocError, Global};
 /// What is counted of one server.
 #[derive(Drop)]
 pub struct ServerTally {
-    server: String,
+    /// Its text, `host:port`.
+    pub server: String,
     /// Legs begun.
     pub sent: Count,
     /// Legs of these that got no reply.
@@ -36,7 +37,7 @@ pub struct ClientTally {
 #[derive(Drop)]
 pub struct Tally {
     /// In the order of the servers' numbers.
-    servers: Vec<ServerTally>,
+    pub servers: Vec<ServerTally>,
     pub clients: ClientTally,
 }
 
