@@ -184,7 +184,7 @@ def a_leg_under_way_keeps_its_own_time(machine):
     expect([rest for _, rest in pending(spool)], [b"a"])
 
 
-@case(240)
+@case(600)
 def forty_drains_lose_no_answered_delete(machine):
     """Clients under load, deletes that are answered before they are sent, and servers that are slow: what was answered is
     performed or in the file."""
