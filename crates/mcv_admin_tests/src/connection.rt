@@ -100,9 +100,13 @@ fn health_is_said(rt: HostRuntime) {
 fn what_was_counted_is_said(rt: HostRuntime) -> Result<(), Fail> {
     let (written, asked) = served(&rt, Health::Draining, b"GET /metrics HTTP/1.1\r\n\r\n");
     let text = std::str::from_utf8(written.as_slice())?;
-    let head = "HTTP/1.1 200 OK\r\nContent-Type: text/plain; version=0.0.4; charset=utf-8\r\nContent-Length: ";
+    let head =
+        "HTTP/1.1 200 OK\r\nContent-Type: text/plain; version=0.0.4; charset=utf-8\r\nContent-Length: ";
     assert!(rt; text.starts_with(head), "{text}");
-    assert!(rt; text.ends_with("\nmcv_build_info{version=\"1\"} 1\n"), "{text}");
+    assert!(rt;
+        text.ends_with("\nmcv_build_info{version=\"1\"} 1\n"),
+        "{text}"
+    );
     assert_eq!(rt; asked, None);
     Ok(())
 }

@@ -306,7 +306,10 @@ fn tally_of(rt: &impl Abort, alloc: Global, accepted: &Accepted) -> Arc<Tally> {
 
 /// Whether so many legs were begun, and those were lost that have the letter of a loss.
 fn is_counted(tally: &Tally, begun: usize, letters: &[u8]) -> bool {
-    let lost = letters.iter().filter(|l| **l == b'b' || **l == b'o').count();
+    let lost = letters
+        .iter()
+        .filter(|l| **l == b'b' || **l == b'o')
+        .count();
     match tally.server(0) {
         Some(server) => server.sent.now() == begun as u64 && server.lost.now() == lost as u64,
         None => false,
@@ -333,7 +336,11 @@ fn check_row<R: Wait + Abort + Copy + Drop>(
     let letters = letters_of(rt, alloc, &mut link, pass, row.ops, begins);
     assert!(rt; is_text(letters.as_slice(), row.letters), "{}", row.name);
     let begun = if begins { row.ops.len() } else { 0 };
-    assert!(rt; is_counted(&tally, begun, letters.as_slice()), "{}", row.name);
+    assert!(rt;
+        is_counted(&tally, begun, letters.as_slice()),
+        "{}",
+        row.name
+    );
     let seen = seen.lock(&rt);
     assert!(rt;
         seen.dials == row.dials && is_text(seen.text.as_slice(), row.text),

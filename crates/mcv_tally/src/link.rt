@@ -52,12 +52,7 @@ impl<L: Link> Link for CountedLink<L> {
         self.link.start(pass, leg)
     }
 
-    fn send(
-        &mut self,
-        pass: &Pass,
-        begun: L::Begun,
-        leg: &LegRequest,
-    ) -> Result<Reply, LinkFault> {
+    fn send(&mut self, pass: &Pass, begun: L::Begun, leg: &LegRequest) -> Result<Reply, LinkFault> {
         let answer = self.link.send(pass, begun, leg);
         if answer.is_err() {
             if let Some(tally) = self.tally() {
