@@ -97,6 +97,7 @@ impl ClientTally {
 }
 
 /// The text of the server of this number.
+#[tactic(auto, using(crate::proofs::Texts::text_there))]
 fn text_of(servers: &Servers, id: ServerId) -> &str
     requires { id.0 < length servers.now }
     ensures { slice_get servers.now id.0 ≡ Some result.now }
@@ -108,6 +109,7 @@ fn text_of(servers: &Servers, id: ServerId) -> &str
 }
 
 /// Nothing yet, of each of these servers.
+#[tactic(auto, using(crate::proofs::Texts::tallied_more))]
 fn tallies_of(alloc: Global, servers: &Servers) -> Result<Vec<ServerTally>, AllocError>
     ensures { IfOk result (λ tallies. tallied tallies.items ≡ servers.now) }
 {
@@ -137,6 +139,7 @@ impl Tally {
     }
 
     /// What was counted of each server up to now, in the order of their numbers.
+    #[tactic(auto, using(crate::proofs::Texts::listed_more))]
     pub fn servers(&self, alloc: Global) -> Result<Vec<ServerCounts>, AllocError>
         ensures { IfOk result (λ counts. listed counts.items ≡ tallied self.now.servers.items) }
     {
