@@ -313,11 +313,26 @@ def stored(key, value, flags=0):
     return b"set %s %d 0 %d\r\n%s\r\n" % (key, flags, len(value), value)
 
 
+def is_stopped(process):
+    """Whether each thread of a program is stopped."""
+    def state(task):
+        with open("/proc/%d/task/%s/stat" % (process.pid, task)) as stat:
+            return stat.read().rpartition(")")[2].split()[0]
+
+    return all(state(task) == "T" for task in os.listdir("/proc/%d/task" % process.pid))
+
+
+def freeze(process):
+    """Stops a program. Its threads stop some time behind the signal, until when they may still answer."""
+    process.send_signal(signal.SIGSTOP)
+    wait_for(lambda: is_stopped(process), "each thread is stopped")
+
+
 def replayed(machine, mcv, spool, text, keys):
     """Starts the server of this address, with an old value of each key, and waits until the spool's deletes were sent again."""
     expect(sorted(pending(spool)), sorted((text.encode(), key) for key in keys), "pending in the spool")
     # mcv is held while the keys are put there, so that only a delete that is sent again takes them away.
-    mcv.process.send_signal(signal.SIGSTOP)
+    freeze(mcv.process)
     machine.memcached(port=address_of(text)[1])
     for key in keys:
         expect(answer(text, stored(key, b"old")), b"STORED\r\n")

@@ -3,13 +3,16 @@
 #![tactic(auto)]
 
 use mcv_check::Accepted;
-use mcv_command::{Ending, Proxy, Stop, SystemFiles, exit_status, given_words, run_words};
-use mcv_input::RunFault;
+use mcv_command::{
+    Ending, Proxy, Stop, SystemFiles, exit_status, given_words, reads_configuration, run_words,
+    second_line,
+};
+use mcv_input::{RunFault, read_at_most};
 use mcv_net::{NetFault, SpoolFiles, serve};
-use mcv_words::{RunOptions, Settings};
+use mcv_words::{RunOptions, Settings, read_words};
 use std::alloc::{AllocError, Global};
 use std::cell::Cell;
-use std::fs::Files;
+use std::fs::{File, Files};
 use std::io;
 use std::io::{Eprint, Write};
 use std::net::{Net, TcpListener, TcpStream};
@@ -19,11 +22,27 @@ use std::sync::{Arc, Wait};
 use std::thread::Threads;
 
 fn main(rt: HostRuntime) -> ExitCode {
-    let ended = run(rt);
-    if let Err(stop) = &ended {
+    let end = match run(rt) {
+        Ok(end) => end,
+        Err(stop) => End {
+            ended: Err(stop),
+            more: None,
+        },
+    };
+    if let Err(stop) = &end.ended {
         let _ = eprintln!(rt; "{stop}");
     }
-    ExitCode::from(exit_status(&ended))
+    if let Some(more) = &end.more {
+        let _ = eprintln!(rt; "{more}");
+    }
+    ExitCode::from(exit_status(&end.ended))
+}
+
+/// How the program ended, and what it says more of a fault.
+#[derive(Drop)]
+struct End {
+    ended: Result<Ending, Stop>,
+    more: Option<String>,
 }
 
 /// What is to be served: the routes, and the options with texts of its own.
@@ -84,22 +103,51 @@ impl Proxy for Orders {
     }
 }
 
+/// The most bytes that are read of a configuration: one more than it may have.
+const READ_LIMIT: u64 = 16_777_217;
+
 /// Does what the words ask for, and keeps what is to be served.
-fn read<R: Env + AllocGlobal + Input + Print + Files>(
+fn read<R: Env + AllocGlobal + Input + Print + Files<File = File>>(
     rt: &R,
     orders: &Orders,
-) -> Result<Ending, Stop> {
+) -> Result<End, Stop> {
     let alloc = rt.alloc();
     let words = given_words(rt)?;
     let texts: Vec<&str> = words.iter().map(|word| word.as_str()).collect(alloc)?;
-    run_words(
-        alloc,
-        texts.as_slice(),
-        &SystemFiles { system: rt },
-        orders,
-        &mut rt.reader(),
-        &mut io::writer(rt),
-    )
+    let texts = texts.as_slice();
+    let is_whole = match read_words(alloc, texts) {
+        Ok(job) => reads_configuration(&job),
+        Err(_) => false,
+    };
+    if !is_whole {
+        let files = SystemFiles { system: rt };
+        let ended = run_words(
+            alloc,
+            texts,
+            &files,
+            orders,
+            &mut rt.reader(),
+            &mut io::writer(rt),
+        );
+        return Ok(End { ended, more: None });
+    }
+    let input = read_at_most(alloc, &mut rt.reader(), READ_LIMIT)?;
+    Ok(judge(rt, texts, orders, input.as_slice()))
+}
+
+/// Does what the words ask for of a configuration, and says more of a fault in it.
+fn judge<R: AllocGlobal + Print + Files<File = File>>(
+    rt: &R,
+    words: &[&str],
+    orders: &Orders,
+    input: &[u8],
+) -> End {
+    let alloc = rt.alloc();
+    let mut rest = input;
+    let files = SystemFiles { system: rt };
+    let ended = run_words(alloc, words, &files, orders, &mut rest, &mut io::writer(rt));
+    let more = second_line(alloc, input, &ended).unwrap_or(None);
+    End { ended, more }
 }
 
 /// Serves clients on the system's sockets.
@@ -135,13 +183,13 @@ where
     }
 }
 
-fn run<R>(rt: R) -> Result<Ending, Stop>
+fn run<R>(rt: R) -> Result<End, Stop>
 where
     R: Env
         + AllocGlobal
         + Input
         + Print
-        + Files
+        + Files<File = File>
         + Net<Stream = TcpStream, Listener = TcpListener>
         + SpoolFiles
         + Threads
@@ -156,9 +204,12 @@ where
     let orders = Orders {
         order: Cell::new(None),
     };
-    let ending = read(&rt, &orders)?;
+    let end = read(&rt, &orders)?;
     match orders.order.replace(None) {
-        Some(order) => serve_order(rt, rt.alloc(), order, &mut io::writer(&rt)),
-        None => Ok(ending),
+        Some(order) => Ok(End {
+            ended: serve_order(rt, rt.alloc(), order, &mut io::writer(&rt)),
+            more: None,
+        }),
+        None => Ok(end),
     }
 }

@@ -1,6 +1,6 @@
 -- What the program did, by what the words asked for.
-use Rattle.std.proofs.Common.{◌≡◌, ◌≢◌, ◌∙◌, ap, inl, inr, ◌+◌, ◌<◌, ◌≤◌, ℕ, List, length, take, Option, None, Some, subst, sym, arith}
-use Rattle.std.specs.Prelude.{IfSome, MatchOption}
+use Rattle.std.proofs.Common.{◌≡◌, ◌≢◌, ◌∙◌, ap, inl, inr, refl, ◌+◌, ◌<◌, ◌≤◌, ℕ, List, length, take, Option, None, Some, Result, Err, subst, sym, arith}
+use Rattle.std.specs.Prelude.{IfErr, IfSome, MatchOption}
 use Rattle.std.proofs.lemmas.List.{length-take}
 use Rattle.std.proofs.lemmas.Option.{IfSome_then}
 use Rattle.clap.specs.Words.{Text}
@@ -8,6 +8,8 @@ use Rattle.mcv_cert.specs.Reading.{Reading, Says, headless, over, reads, text_li
 use Rattle.mcv_input.proofs.FirstBytes.{whole}
 use Rattle.mcv_input.specs.Fault.{IsOutside}
 use Rattle.mcv_input.specs.declared.fault.RunFault.{RunFault}
+use Rattle.mcv_records.specs.declared.fault.RecordsFault.{RecordsFault}
+use Rattle.mcv_records.specs.declared.fault.RecordsFault.TheVariants as records
 use Rattle.mcv_input.specs.declared.fault.RunFault.TheVariants.{Line, NoRoute, Config, CertificateText, Certificate, Window, Memory, Device}
 use Rattle.mcv_mend.specs.Mending.{IsMendFault}
 use Rattle.mcv_mend.specs.declared.fault.MendFault.{MendFault}
@@ -16,11 +18,12 @@ use Rattle.mcv_verdict.specs.Fault as check
 use Rattle.mcv_verdict.specs.Verdict.{IsVerdictOn}
 use Rattle.mcv_verdict.specs.declared.verdict.Verdict.{Verdict}
 use Rattle.mcv_verdict.specs.declared.verdict.Verdict.TheVariants.{Covered, Lost}
+use Rattle.mcv_command.specs.declared.stop.Ending.{Ending}
 use Rattle.mcv_command.specs.declared.stop.Stop.{Stop}
-use Rattle.mcv_command.specs.declared.stop.Stop.TheVariants.{BadLine, Mended, NoChange, Run}
-use Rattle.mcv_command.specs.Program.{Held, IfGiven, IsJudgingFault, IsMendingStop, IsStop}
-use Rattle.mcv_command.specs.Stop.{stop_of_mending}
-use Rattle.mcv_words.specs.Words.{AsksCheck, AsksMend, AsksRun, RunOrder}
+use Rattle.mcv_command.specs.declared.stop.Stop.TheVariants.{BadLine, Mended, NoChange, Run, Damaged}
+use Rattle.mcv_command.specs.Program.{Held, IfGiven, IsJudgingFault, IsListingStop, IsMendingStop, IsStop}
+use Rattle.mcv_command.specs.Stop.{of_records, stop_of_mending}
+use Rattle.mcv_words.specs.Words.{AsksCheck, AsksMend, AsksRun, AsksSpool, RunOrder, SpoolOrder}
 use Rattle.mcv_words.specs.declared.options.Window as asked
 
 -- ---- the faults of a verdict, as the program's
@@ -28,6 +31,7 @@ use Rattle.mcv_words.specs.declared.options.Window as asked
 pub judging_stop : (words : List Text) (held : Held) (input : Option Text) (cert : Option Text) (window : asked.Window) (stop : Stop) → AsksCheck words cert window
     → IsJudgingFault held cert window.seconds input stop → IsStop words held input stop
 judging_stop words held input cert window BadLine asks holds = absurd holds
+judging_stop words held input cert window (Damaged slot) asks holds = absurd holds
 judging_stop words held input cert window (Run fault) asks holds = inr (inr (inl (cert, window, asks, holds)))
 judging_stop words held input cert window (Mended fault) asks holds = absurd holds
 judging_stop words held input cert window NoChange asks holds = absurd holds
@@ -35,6 +39,7 @@ judging_stop words held input cert window NoChange asks holds = absurd holds
 pub running_stop : (words : List Text) (held : Held) (input : Option Text) (order : RunOrder) (stop : Stop) → AsksRun words order
     → IsJudgingFault held None order.settings.window.seconds input stop → IsStop words held input stop
 running_stop words held input order BadLine asks holds = absurd holds
+running_stop words held input order (Damaged slot) asks holds = absurd holds
 running_stop words held input order (Run fault) asks holds = inr (inr (inr (inr (order, asks, holds))))
 running_stop words held input order (Mended fault) asks holds = absurd holds
 running_stop words held input order NoChange asks holds = absurd holds
@@ -48,6 +53,7 @@ mending_fault input mend_faults.GaveUp holds = holds
 
 pub mending_stop : (words : List Text) (held : Held) (input : Option Text) (stop : Stop) → AsksMend words → IsMendingStop input stop → IsStop words held input stop
 mending_stop words held input BadLine asks holds = absurd holds
+mending_stop words held input (Damaged slot) asks holds = absurd holds
 mending_stop words held input (Run fault) asks holds = inr (inr (inr (inl (asks, holds))))
 mending_stop words held input (Mended fault) asks holds = (asks, holds)
 mending_stop words held input NoChange asks holds = (asks, holds)
@@ -58,6 +64,56 @@ mending_stop words held input NoChange asks holds = (asks, holds)
 pub outside_stop : (stop : Stop) (fault : RunFault) → stop ≡ Run fault → IsOutside fault → stop ≢ Run Device → stop ≢ Run Memory → ⊥
 outside_stop stop fault is (inl memory) no_device no_memory = no_memory (is ∙ ap Run memory)
 outside_stop stop fault is (inr device) no_device no_memory = no_device (is ∙ ap Run device)
+
+-- ---- the records of a spool
+
+pub listing_stop : (words : List Text) (held : Held) (input : Option Text) (order : SpoolOrder) (stop : Stop) → AsksSpool words order → IsListingStop stop
+    → IsStop words held input stop
+listing_stop words held input order BadLine asks holds = absurd holds
+listing_stop words held input order (Run fault) asks holds = inl holds
+listing_stop words held input order (Mended fault) asks holds = absurd holds
+listing_stop words held input order NoChange asks holds = absurd holds
+listing_stop words held input order (Damaged slot) asks holds = (order, asks)
+
+-- what is said of the file that a view shows is said of what the file holds
+pub listed_whole : (known : Option Text) (K : Type 0) (seen : Text) (P : Text → Type 0) → IfSome known (λ all. K × (seen ≡ all)) → (K → P seen) → IfSome known P
+listed_whole None K seen P shows holds = tt
+listed_whole (Some all) K seen P shows holds = subst P shows.1 (holds shows.0)
+
+pub records_stop : (fault : RecordsFault) (stop : Stop) → stop ≡ of_records fault → IsListingStop stop
+records_stop (records.Damaged slot) stop is = subst (λ (s : Stop). IsListingStop s) (sym is) tt
+records_stop records.Device stop is = subst (λ (s : Stop). IsListingStop s) (sym is) (inr refl)
+records_stop records.Memory stop is = subst (λ (s : Stop). IsListingStop s) (sym is) (inl refl)
+
+same_slot : (one other : ℕ) → Damaged one ≡ Damaged other → one ≡ other
+same_slot one other is = cc
+
+not_damaged : (fault : RunFault) (slot : ℕ) → Run fault ≡ Damaged slot → ⊥
+not_damaged fault slot is = cc
+
+same_stop : (result : Result Ending Stop) (one other : Stop) → result ≡ Err one → result ≡ Err other → one ≡ other
+same_stop result one other is too = let same : ◌≡◌ {A = Result Ending Stop} (Err one) (Err other) = sym is ∙ too in cc
+
+-- a fault of a run is no damaged slot
+pub run_is_whole : (result : Result Ending Stop) (stop : Stop) (fault : RunFault) (slot : ℕ) → result ≡ Err stop → stop ≡ Run fault → result ≡ Err (Damaged slot) → ⊥
+run_is_whole result stop fault slot is by damaged = not_damaged fault slot (sym by ∙ same_stop result stop (Damaged slot) is damaged)
+
+-- .. nor is one of a verdict
+pub judged_whole : (result : Result Ending Stop) (held : Held) (cert : Option Text) (window : ℕ) (input : Option Text) (slot : ℕ)
+    → IfErr result (IsJudgingFault held cert window input) → result ≡ Err (Damaged slot) → ⊥
+judged_whole result held cert window input slot holds damaged = subst (λ (r : Result Ending Stop). IfErr r (IsJudgingFault held cert window input)) damaged holds
+
+-- .. nor is one of a configuration that isn't mended
+pub mended_whole : (result : Result Ending Stop) (input : Option Text) (slot : ℕ) → IfErr result (IsMendingStop input) → result ≡ Err (Damaged slot) → ⊥
+mended_whole result input slot holds damaged = subst (λ (r : Result Ending Stop). IfErr r (IsMendingStop input)) damaged holds
+
+-- a damaged slot is one of the records'
+pub damaged_records : (result : Result Ending Stop) (fault : RecordsFault) (stop : Stop) (slot : ℕ) → result ≡ Err stop → stop ≡ of_records fault → result ≡ Err (Damaged slot)
+    → fault ≡ records.Damaged slot
+damaged_records result (records.Damaged number) stop slot is of damaged =
+    ap records.Damaged (same_slot number slot (sym of ∙ same_stop result stop (Damaged slot) is damaged))
+damaged_records result records.Device stop slot is of damaged = absurd (run_is_whole result stop Device slot is of damaged)
+damaged_records result records.Memory stop slot is of damaged = absurd (run_is_whole result stop Memory slot is of damaged)
 
 -- ---- a certificate's text by its first bytes
 

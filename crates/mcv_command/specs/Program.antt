@@ -1,5 +1,5 @@
 -- What the program does for the words of a command line.
-use Rattle.std.specs.Prelude.{◌≡◌, ◌⊎◌, ℕ, List, Option, Some, None, IfSome, MatchOption, codes}
+use Rattle.std.specs.Prelude.{◌≡◌, ◌⊎◌, ℕ, Bool, List, Option, Some, None, IfSome, MatchOption, codes, take, if◌then◌else◌, ⊤}
 use Rattle.std.specs.Io.KnownBytes.{Appends}
 use Rattle.clap.specs.Words.{IsAmong, Text}
 use Rattle.clap.specs.declared.error.kind.ErrorKind.TheVariants.{DisplayHelp, DisplayVersion}
@@ -10,20 +10,24 @@ use Rattle.mcv_legs.specs.Fault as legs
 use Rattle.mcv_mend.specs.Mending.{IsMendFault, IsMendingOn}
 use Rattle.mcv_mend.specs.declared.fault.MendFault.TheVariants as mend_faults
 use Rattle.mcv_mend.specs.declared.fault.Mending.{Mending}
+use Rattle.mcv_records.specs.Text.{records_text, slot_lines}
+use Rattle.mcv_records.specs.declared.list.Shown.{Shown}
+use Rattle.mcv_records.specs.declared.list.Shown.TheVariants.{Pending, All}
 use Rattle.mcv_route.specs.Routes.{RoutesValue, within}
+use Rattle.mcv_spool.specs.File.{damage, slots}
 use Rattle.mcv_symbolic.specs.CoveredRoutes.{AreCovered}
 use Rattle.mcv_verdict.specs.Fault as check
 use Rattle.mcv_verdict.specs.Verdict.{IsVerdictOn}
 use Rattle.mcv_verdict.specs.declared.verdict.Verdict.{Verdict}
 use Rattle.mcv_verdict.specs.declared.verdict.Verdict.TheVariants as verdicts
-use Rattle.mcv_words.specs.Words.{AsksCheck, AsksMend, AsksRun, IsJobOf, IsLineFault, RunOrder, faults}
+use Rattle.mcv_words.specs.Words.{AsksCheck, AsksMend, AsksRun, AsksSpool, IsJobOf, IsLineFault, RunOrder, SpoolOrder, faults}
 use Rattle.mcv_words.specs.declared.options.Window.{Window}
 use Rattle.mcv_words.specs.declared.words.Job.TheVariants as jobs
 use Rattle.mcv_words.specs.declared.words.LineFault.TheVariants as line_fault
 use Rattle.mcv_command.specs.declared.stop.Ending.{Ending}
 use Rattle.mcv_command.specs.declared.stop.Ending.TheVariants.{Done, Lost}
 use Rattle.mcv_command.specs.declared.stop.Stop.{Stop}
-use Rattle.mcv_command.specs.declared.stop.Stop.TheVariants.{BadLine, Mended, NoChange, Run}
+use Rattle.mcv_command.specs.declared.stop.Stop.TheVariants.{BadLine, Mended, NoChange, Run, Damaged}
 
 -- what files hold by their names, where that is known
 abbrev pub Held : Type 0
@@ -47,6 +51,7 @@ IsJudged held cert window input old new ending =
 -- memory ran out, or a device failed; or the fault is in the input or in the certificate that is given
 abbrev pub IsJudgingFault : Held → Option Text → (window : ℕ) → (input : Option Text) → Stop → Type 0
 IsJudgingFault held cert window input BadLine = ⊥
+IsJudgingFault held cert window input (Damaged slot) = ⊥
 IsJudgingFault held cert window input (Run fault) = IsOutside fault ⊎ IfSome input (λ bytes. IfGiven held cert (λ certificate. check.IsRunFault bytes window certificate fault))
 IsJudgingFault held cert window input (Mended fault) = ⊥
 IsJudgingFault held cert window input NoChange = ⊥
@@ -62,6 +67,7 @@ IsMendingStop input BadLine = ⊥
 IsMendingStop input (Run fault) = IfSome input (λ bytes. IsMendFault bytes (mend_faults.Run fault))
 IsMendingStop input (Mended fault) = IfSome input (λ bytes. IsMendFault bytes (mend_faults.Limit fault))
 IsMendingStop input NoChange = IfSome input (λ bytes. IsMendFault bytes mend_faults.GaveUp)
+IsMendingStop input (Damaged slot) = ⊥
 
 -- what it is that routes were served as `run` was asked for, from what the writer held to what it holds
 abbrev pub Serves : Type 1
@@ -78,6 +84,30 @@ IsServed held serves order input old new ending =
 abbrev pub AsksAnyRun : List Text → Type 0
 AsksAnyRun words = (order : RunOrder) × AsksRun words order
 
+abbrev pub shown_of : Bool → Shown
+shown_of all = if all then All else Pending
+
+-- no slot of the file is damaged, and the text of its records was written, where it is known what the file holds
+abbrev pub IsListed : Held → SpoolOrder → (old new : Option Text) → Type 0
+IsListed held order old new = IfSome (held order.file) (λ file. (damage 0 (slots file) ≡ None) × Appends old new (records_text (shown_of order.all) file))
+
+-- this slot is the first that is damaged, and the lines of those before it were written
+abbrev pub IsListedTo : ℕ → Held → SpoolOrder → (old new : Option Text) → Type 0
+IsListedTo slot held order old new =
+    IfSome (held order.file) (λ file. (damage 0 (slots file) ≡ Some slot) × Appends old new (slot_lines (shown_of order.all) 0 (take slot (slots file))))
+
+-- memory ran out, or a device failed; or a slot of the file is damaged
+abbrev pub IsListingStop : Stop → Type 0
+IsListingStop BadLine = ⊥
+IsListingStop (Run fault) = IsOutside fault
+IsListingStop (Mended fault) = ⊥
+IsListingStop NoChange = ⊥
+IsListingStop (Damaged slot) = ⊤
+
+-- the words ask for the records of a spool's file
+abbrev pub AsksAnySpool : List Text → Type 0
+AsksAnySpool words = (order : SpoolOrder) × AsksSpool words order
+
 abbrev pub version_line : Text
 version_line = codes "mcv 1\n"
 
@@ -87,19 +117,21 @@ IsShownFor words text = IsAmong DisplayHelp (faults words) ⊎ (IsAmong DisplayV
 
 -- help or the version was asked for and shown; or the words ask for legs at a moment, and what answers the input at that moment was written; or they
 -- ask for a verdict, and it was written; or they ask for the input mended, and it was written; or they ask for a run, and the proxy served as
--- they ask, or the verdict was written by which it doesn't
+-- they ask, or the verdict was written by which it doesn't; or they ask for the records of a spool's file, and their text was written
 abbrev pub IsDone : List Text → Held → Serves → (input old new : Option Text) → Ending → Type 0
 IsDone words held serves input old new ending =
     ((text : Text) × IsShownFor words text × Appends old new text × (ending ≡ Done))
     ⊎ (((at : Moment) × IsJobOf words (jobs.Legs at) × (text : Text) × IfSome input (λ bytes. IsAnswer at.0 bytes text) × Appends old new text × (ending ≡ Done))
     ⊎ (((cert : Option Text) × (window : Window) × AsksCheck words cert window × IsJudged held cert window.seconds input old new ending)
     ⊎ ((AsksMend words × IsMended input old new ending)
-    ⊎ ((order : RunOrder) × AsksRun words order × IsServed held serves order input old new ending))))
+    ⊎ (((order : RunOrder) × AsksRun words order × IsServed held serves order input old new ending)
+    ⊎ ((order : SpoolOrder) × AsksSpool words order × IsListed held order old new × (ending ≡ Done))))))
 
 -- the words are at fault; or memory ran out, or a device failed; or the words ask for legs, for a verdict, for the input mended or for a run, and
--- the fault is in what was read; or it isn't mended
+-- the fault is in what was read; or it isn't mended; or they ask for the records of a spool's file, and one of its slots is damaged
 abbrev pub IsStop : List Text → Held → (input : Option Text) → Stop → Type 0
 IsStop words held input BadLine = IsLineFault words line_fault.BadLine
+IsStop words held input (Damaged slot) = AsksAnySpool words
 IsStop words held input (Run fault) =
     IsOutside fault
     ⊎ (((at : Moment) × IsJobOf words (jobs.Legs at) × IfSome input (λ bytes. legs.IsRunFault bytes fault))

@@ -4,9 +4,11 @@ ghost use Rattle.std.specs.Prelude.{◌≡◌, ℕ, List, None, Option, IfErr, I
 ghost use Rattle.mcv_input.specs.Fault.{IsOutside};
 
 use mcv_input::{RunFault, read_at_most};
+use mcv_records::FileView;
+use mcv_spool::Disk;
 use std::alloc::Global;
 use std::fs;
-use std::fs::Files;
+use std::fs::{File, Files};
 
 /// Files by their names.
 pub trait NamedFiles {
@@ -17,6 +19,14 @@ pub trait NamedFiles {
     fn read_named(&self, alloc: Global, name: &str, limit: u64) -> Result<Vec<u8>, RunFault>
         ensures read { IfOk result (λ bytes. IfSome (held self.now name.now) (λ all. bytes.items ≡ take limit all)) }
         ensures fault { IfErr result IsOutside };
+
+    /// A file that is only read.
+    type View: Disk;
+
+    /// The file of this name, to be read alone. It isn't locked.
+    fn view(&self, name: &str) -> Result<Self::View, RunFault>
+        ensures shows { IfOk result (λ view. IfSome (held self.now name.now) (λ all. Self.View.keeps_model × (Self.View.seen view ≡ all))) }
+        ensures fault { IfErr result IsOutside };
 }
 
 /// The files of the system that the program runs on. Nothing is known of what they hold.
@@ -25,12 +35,21 @@ pub struct SystemFiles<'a, R: Files> {
     pub system: &'a R,
 }
 
-impl<'a, R: Files> NamedFiles for SystemFiles<'a, R> {
+impl<'a, R: Files<File = File>> NamedFiles for SystemFiles<'a, R> {
     ghost held = { λ _ _. None };
 
     fn read_named(&self, alloc: Global, name: &str, limit: u64) -> Result<Vec<u8>, RunFault> {
         match fs::open(self.system, name) {
             Ok(mut file) => read_at_most(alloc, &mut file, limit),
+            Err(_) => Err(RunFault::Device),
+        }
+    }
+
+    type View = FileView;
+
+    fn view(&self, name: &str) -> Result<FileView, RunFault> {
+        match FileView::open(self.system, name) {
+            Ok(view) => Ok(view),
             Err(_) => Err(RunFault::Device),
         }
     }

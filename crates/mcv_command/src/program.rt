@@ -1,10 +1,10 @@
 //! The program, over any reader and writer in place of standard input and output, any files and any proxy.
 
-ghost use Rattle.std.specs.Prelude.{◌≡◌, ◌≢◌, None, Some, IfErr, IfOk, map};
-ghost use Rattle.mcv_command.specs.Program.{AsksAnyRun, Held, IsDone, IsJudged, IsJudgingFault, IsMended, IsMendingStop, IsServed, IsStop, ending_of};
-ghost use Rattle.mcv_command.specs.declared.stop.Stop.TheVariants.{Run};
+ghost use Rattle.std.specs.Prelude.{◌≡◌, ◌≢◌, ℕ, None, Some, Err, IfErr, IfOk, map};
+ghost use Rattle.mcv_command.specs.Program.{AsksAnyRun, AsksAnySpool, Held, IsDone, IsJudged, IsJudgingFault, IsListed, IsListedTo, IsListingStop, IsMended, IsMendingStop, IsServed, IsStop, ending_of, shown_of};
+ghost use Rattle.mcv_command.specs.declared.stop.Stop.TheVariants.{Run, Damaged};
 ghost use Rattle.mcv_input.specs.declared.fault.RunFault.TheVariants.{Device, Memory};
-ghost use Rattle.mcv_words.specs.Words.{order_of};
+ghost use Rattle.mcv_words.specs.Words.{AsksSpool, SpoolOrder, order_of, spool_order_of};
 
 use crate::files::NamedFiles;
 use crate::proxy::Proxy;
@@ -12,8 +12,9 @@ use crate::stop::{Ending, Stop};
 use mcv_input::{RunFault, write_text};
 use mcv_legs::run_legs;
 use mcv_mend::run_mend;
+use mcv_records::{Shown, write_records};
 use mcv_verdict::{Judgement, Verdict, judge_input, run_check};
-use mcv_words::{Job, LineFault, RunOptions, Window, read_words};
+use mcv_words::{Job, LineFault, RunOptions, SpoolOptions, Window, read_words};
 use std::alloc::Global;
 use std::io::{Read, Write};
 use std::sync::Arc;
@@ -103,8 +104,33 @@ fn serve<R: Read, W: Write, P: Proxy>(
     }
 }
 
+/// Which records are shown.
+fn shown_of(all: bool) -> Shown
+    ensures { result ≡ shown_of all }
+{
+    if all { Shown::All } else { Shown::Pending }
+}
+
+/// Shows the records of a spool's file.
+fn list_records<W: Write, F: NamedFiles>(
+    alloc: Global,
+    options: SpoolOptions<'_>,
+    files: &F,
+    writer: &mut W,
+) -> Result<Ending, Stop>
+    ensures done { IfOk result (λ ending. IsListed (F.held files.now) (spool_order_of options.entry) (W.contents writer.old) (W.contents writer.new) × (ending ≡ Ending.Done)) }
+    ensures stop { IfErr result IsListingStop }
+    ensures listed { (slot : ℕ) → result ≡ Err (Damaged slot) → IsListedTo slot (F.held files.now) (spool_order_of options.entry) (W.contents writer.old) (W.contents writer.new) }
+{
+    let mut view = files.view(options.file)?;
+    match write_records(alloc, &mut view, writer, shown_of(options.all)) {
+        Ok(()) => Ok(Ending::Done),
+        Err(fault) => Err(Stop::from(fault)),
+    }
+}
+
 /// Does what the words of a command line ask for, of which the first is the program's name: help,
-/// legs, verdicts and a mended configuration are written to the writer, and so is what the proxy says of itself.
+/// legs, verdicts, a mended configuration and records are written to the writer, and so is what the proxy says of itself.
 pub fn run_words<'a, R: Read, W: Write, F: NamedFiles, P: Proxy>(
     alloc: Global,
     words: &'a [&'a str],
@@ -117,7 +143,9 @@ pub fn run_words<'a, R: Read, W: Write, F: NamedFiles, P: Proxy>(
         (W.contents writer.old) (W.contents writer.new)) }
     ensures stop { IfErr result (IsStop (map (λ w. w.now) words.entry.now) (F.held files.now) (R.remaining reader.old)) }
     ensures silent { IfErr result (λ stop. stop ≢ Run Device → (stop ≡ Run Memory → ¬ AsksAnyRun (map (λ w. w.now) words.entry.now))
-        → W.contents writer.new ≡ W.contents writer.old) }
+        → ¬ AsksAnySpool (map (λ w. w.now) words.entry.now) → W.contents writer.new ≡ W.contents writer.old) }
+    ensures listed { (slot : ℕ) → result ≡ Err (Damaged slot) → (order : SpoolOrder) × AsksSpool (map (λ w. w.now) words.entry.now) order
+        × IsListedTo slot (F.held files.now) order (W.contents writer.old) (W.contents writer.new) }
 {
     match read_words(alloc, words) {
         Ok(Job::Legs { at }) => {
@@ -133,6 +161,7 @@ pub fn run_words<'a, R: Read, W: Write, F: NamedFiles, P: Proxy>(
         ) => judge_by(alloc, name, window, files, reader, writer),
         Ok(Job::Mend) => mend(alloc, reader, writer),
         Ok(Job::Run(options)) => serve(alloc, proxy, options, reader, writer),
+        Ok(Job::Spool(options)) => list_records(alloc, options, files, writer),
         Err(LineFault::Help(text)) => {
             write_text(writer, text.as_bytes())?;
             Ok(Ending::Done)

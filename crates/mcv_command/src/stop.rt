@@ -2,13 +2,14 @@
 //! `stop_text`.
 
 ghost use Rattle.std.specs.Prelude.{◌≡◌, Some};
-ghost use Rattle.mcv_command.specs.Stop.{ended_status, ending_status, stop_of_mending, stop_status, stop_text};
+ghost use Rattle.mcv_command.specs.Stop.{ended_status, ending_status, of_records, stop_of_mending, stop_status, stop_text};
 ghost use Rattle.mcv_command.specs.declared.stop.Stop.TheVariants.{Run};
 ghost use Rattle.mcv_input.specs.declared.fault.RunFault.TheVariants.{Memory as out_of_memory};
 
 use mcv_config::ConfigFault;
 use mcv_input::RunFault;
 use mcv_mend::MendFault;
+use mcv_records::RecordsFault;
 use std::alloc::AllocError;
 use std::fmt;
 
@@ -44,6 +45,8 @@ pub enum Stop {
     Mended(ConfigFault),
     /// No change was found that covers the configuration.
     NoChange,
+    /// The slot of this number of a spool's file is damaged. What stands before it was written.
+    Damaged(u64),
 }
 
 impl Stop {
@@ -55,6 +58,7 @@ impl Stop {
             Stop::BadLine => 1,
             Stop::Run(fault) => fault.status(),
             Stop::Mended(_) | Stop::NoChange => 3,
+            Stop::Damaged(_) => 4,
         }
     }
 }
@@ -82,6 +86,7 @@ impl fmt::Display for Stop {
                 write!(f, "mcv: mended configuration {number} at {path}")
             }
             Stop::NoChange => write!(f, "mcv: no change found"),
+            Stop::Damaged(slot) => write!(f, "mcv: slot {slot} of the spool is damaged"),
         }
     }
 }
@@ -102,6 +107,18 @@ impl From<MendFault> for Stop {
             MendFault::Run(fault) => Stop::Run(fault),
             MendFault::Limit(fault) => Stop::Mended(fault),
             MendFault::GaveUp => Stop::NoChange,
+        }
+    }
+}
+
+impl From<RecordsFault> for Stop {
+    ghost from_gives = { λ fault stop. stop ≡ of_records fault };
+
+    fn from(fault: RecordsFault) -> Stop {
+        match fault {
+            RecordsFault::Damaged(slot) => Stop::Damaged(slot),
+            RecordsFault::Device => Stop::Run(RunFault::Device),
+            RecordsFault::Memory => Stop::Run(RunFault::Memory),
         }
     }
 }

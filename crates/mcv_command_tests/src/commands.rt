@@ -2,11 +2,11 @@
 
 ghost use Rattle.std.specs.Prelude.{None, ⊤};
 
-use crate::devices::is_written;
+use crate::devices::{HeldBytes, is_written};
 use mcv_check::Accepted;
 use mcv_command::{Ending, NamedFiles, Proxy, Stop, run_words};
 use mcv_input::{RunFault, read_at_most};
-use mcv_words::{Job, LineFault, RunOptions, read_words};
+use mcv_words::{Job, LineFault, RunOptions, SpoolOptions, read_words};
 use std::alloc::Global;
 use std::io::Write;
 use std::process::Abort;
@@ -79,6 +79,17 @@ mcv run --listen h:1 --listen h:2 --spool f: bad line
 mcv run h:1 --listen h:1 --spool f: bad line
 mcv run --at 1 --listen h:1 --spool f: bad line
 mcv check --listen h:1: bad line
+mcv spool f: spool f
+mcv spool f --all: spool f all
+mcv spool --all f: spool f all
+mcv spool -- --all: spool --all
+mcv spool: bad line
+mcv spool --all: bad line
+mcv spool f g: bad line
+mcv spool f --all --all: bad line
+mcv spool f --all=yes: bad line
+mcv spool --file f: bad line
+mcv spool --spool f: bad line
 mcv: bad line
 mcv serve: bad line
 mcv legs x: bad line
@@ -96,6 +107,8 @@ mcv help mend: help
 mcv run --help: help
 mcv run -h: help
 mcv help run: help
+mcv spool --help: help
+mcv help spool: help
 mcv legs -h: help
 mcv --version: version
 mcv -V: version
@@ -142,6 +155,10 @@ fn job_text(rt: &(impl AllocGlobal + Abort), job: Job<'_>) -> String {
             let order = order_text(rt, options);
             format!(in rt.alloc(); "run {order}")
         }
+        Job::Spool(SpoolOptions { file, all }) => {
+            let more = if all { " all" } else { "" };
+            format!(in rt.alloc(); "spool {file}{more}")
+        }
     };
     text.expect(rt, "memory")
 }
@@ -176,7 +193,7 @@ fn command_lines_ask_for_their_job(rt: HostRuntime) {
     }
 }
 
-/// Files of which one is there, `a.cert`.
+/// Files of which one is there, `a.cert`, which is a spool's too.
 #[derive(Drop)]
 struct OneFile<'a> {
     held: &'a [u8],
@@ -191,6 +208,15 @@ impl<'a> NamedFiles for OneFile<'a> {
         }
         let mut held = self.held;
         read_at_most(alloc, &mut held, limit)
+    }
+
+    type View = HeldBytes<'a>;
+
+    fn view(&self, name: &str) -> Result<HeldBytes<'a>, RunFault> {
+        if name != "a.cert" {
+            return Err(RunFault::Device);
+        }
+        Ok(HeldBytes { bytes: self.held })
     }
 }
 
@@ -233,7 +259,7 @@ impl Proxy for Listed {
 }
 
 /// How the program ends on the words, the file and the input.
-fn ran<W: Write>(
+pub(crate) fn ran<W: Write>(
     alloc: Global,
     words: &[&str],
     file: &[u8],
@@ -283,6 +309,7 @@ const MAIN_PARTS: &[&str] = &[
     "  legs  ",
     "  mend  ",
     "  run  ",
+    "  spool  ",
     "\n  mcv check < mcrouter.json\n",
     "\n  mcv mend < mcrouter.json > mended.json\n",
     "\n  (echo 'delete a'; cat mcrouter.json) | mcv legs\n",
@@ -331,7 +358,15 @@ fn help_names_input_and_exit_statuses(rt: HostRuntime) {
     check_parts(&rt, &["mcv", "check", "--help"], CHECK_PARTS);
     check_parts(&rt, &["mcv", "legs", "--help"], LEGS_PARTS);
     check_parts(&rt, &["mcv", "mend", "--help"], MEND_PARTS);
+    check_parts(&rt, &["mcv", "spool", "--help"], SPOOL_PARTS);
 }
+
+const SPOOL_PARTS: &[&str] = &[
+    "Usage: mcv spool FILE [--all]",
+    "\n  0 pending a:11211 a\n",
+    "\n  records 3 pending 1\n",
+    "mcv: slot NUMBER of the spool is damaged",
+];
 
 const RUN_PARTS: &[&str] = &[
     "Usage: mcv run --listen ADDRESS --spool FILE [OPTIONS] < FILE",
@@ -371,6 +406,7 @@ fn help_names_each_handle_within_eighty_columns(rt: HostRuntime) {
     check_columns(&rt, &["mcv", "legs", "--help"]);
     check_columns(&rt, &["mcv", "check", "--help"]);
     check_columns(&rt, &["mcv", "mend", "--help"]);
+    check_columns(&rt, &["mcv", "spool", "--help"]);
 }
 
 const POOL: &str = "{\"pools\":{\"A\":{\"servers\":[\"a:11211\"]}},\"route\":\"PoolRoute|A\"}";

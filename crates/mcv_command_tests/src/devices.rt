@@ -1,5 +1,8 @@
 //! What the tests read from and write to.
 
+ghost use Rattle.std.specs.Prelude.{[]};
+
+use mcv_spool::{Disk, DiskFailed};
 use std::io;
 use std::io::{Read, Write};
 use std::process::Abort;
@@ -21,6 +24,59 @@ impl Write for Broken {
 
     fn flush(&mut self) -> io::Result<()> {
         Ok(())
+    }
+}
+
+/// A file that is only read.
+#[derive(Drop)]
+pub struct HeldBytes<'a> {
+    pub bytes: &'a [u8],
+}
+
+impl<'a> Disk for HeldBytes<'a> {
+    ghost keeps_model = { ⊥ };
+
+    ghost seen = { λ _. [] };
+
+    ghost may_leave = { λ _ _. ⊥ };
+
+    ghost moment = { λ _. 0 };
+
+    ghost left_since = { λ _ _ _. ⊥ };
+
+    ghost failures = { λ _. 0 };
+
+    ghost read_may_stay = { λ none. absurd none };
+
+    ghost counts_now = { λ none. absurd none };
+
+    ghost only_now = { λ none. absurd none };
+
+    fn len(&mut self) -> Result<usize, DiskFailed> {
+        Ok(self.bytes.len())
+    }
+
+    fn read(&mut self, at: usize, bytes: &mut [u8]) -> Result<(), DiskFailed> {
+        for (place, byte) in bytes.iter_mut().enumerate() {
+            *byte = self.bytes.get(at.wrapping_add(place)).copied().unwrap_or(0);
+        }
+        Ok(())
+    }
+
+    fn write_at(&mut self, _at: usize, _bytes: &[u8]) -> Result<(), DiskFailed> {
+        Err(DiskFailed)
+    }
+
+    fn cut(&mut self, _len: usize) -> Result<(), DiskFailed> {
+        Err(DiskFailed)
+    }
+
+    fn sync(&mut self) -> Result<(), DiskFailed> {
+        Err(DiskFailed)
+    }
+
+    fn renew(&mut self) -> Result<(), DiskFailed> {
+        Err(DiskFailed)
     }
 }
 

@@ -4,10 +4,14 @@
 #[cfg(test)]
 mod commands;
 #[cfg(test)]
+mod details;
+#[cfg(test)]
 mod devices;
 #[cfg(test)]
 mod input;
 #[cfg(test)]
 mod legs;
+#[cfg(test)]
+mod spool;
 #[cfg(test)]
 mod verdict;

@@ -1,5 +1,5 @@
 -- Each answer is that of the call that takes the event in.
-use Rattle.std.proofs.Common.{◌≡◌, ◌∙◌, sym, ℕ, Bool, List, [], ◌∷◌, Option, Some, None, Result, Ok, Err, refl}
+use Rattle.std.proofs.Common.{◌≡◌, ◌∙◌, sym, subst, ℕ, Bool, List, [], ◌∷◌, Option, Some, None, Result, Ok, Err, refl}
 use Rattle.std.specs.Prelude.{IfErr, IfOk, OnErr, OnOk, position, slice_get}
 use Rattle.std.specs.Arc.{arc_value}
 use Rattle.std.specs.declared.alloc.Global.{Global}
@@ -38,7 +38,7 @@ no_place p (x ∷ xs) i e n = no_some (sym n ∙ slice_get-get_or (x ∷ xs) i x
 
 -- ---- a call begins
 
-module _ (v : CoreView) (chosen : SymbolValue → List ℕ → ℕ) (request : Request) (key : ℕ) (asks : Asked) (a : IsAsked v.routes chosen request key asks.op asks.route (arc_value asks.rest) asks.choice) where
+module _ (v : CoreView) (chosen : SymbolValue → List ℕ → ℕ) (request : Request) (key : ℕ) (asks : Asked) (a : IsAsked v.routes chosen request key asks.op asks.route (arc_value asks.rest) asks.choice) (its : arc_value asks.request ≡ request) where
   unbegun_by : (fault : CoreFault) → IsUnstarted v asks fault → IsUnbegun v chosen request key fault
   unbegun_by UnknownPrefix f = absurd (no_place (is_alias a.prefix) v.routes.entries asks.route a.routed f)
   unbegun_by BadKey f = absurd f
@@ -52,10 +52,10 @@ module _ (v : CoreView) (chosen : SymbolValue → List ℕ → ℕ) (request : R
   unbegun_by NoSuchCall f = absurd f
 
   -- the call that is asked for begins, or is refused
-  pub begun_for : (w : CoreView) (r : Result CallId CoreFault) → OnOk r (Moved v w (began_for asks)) → IfOk r (λ call. call.0 ≡ v.rows.next_call) → OnOk r (HasBegun v w (asked_call v asks)) → IfErr r (IsUnstarted v asks) → OnErr r (w ≡ v) → IsEvent (IsBegun v chosen request key r) w
+  pub begun_for : (w : CoreView) (r : Result CallId CoreFault) → OnOk r (Moved v w (began_for asks)) → IfOk r (λ call. call.0 ≡ v.rows.next_call) → OnOk r (HasBegun v w (asked_call v asks) (Some (arc_value asks.request))) → IfErr r (IsUnstarted v asks) → OnErr r (w ≡ v) → IsEvent (IsBegun v chosen request key r) w
   begun_for w (Ok call) moved number has unstarted same = record {
     move = Some (began_for asks);
-    event = record { op = asks.op; route = asks.route; rest = arc_value asks.rest; choice = asks.choice; asked = a; begun = has; number = number; move = refl; does = moved };
+    event = record { op = asks.op; route = asks.route; rest = arc_value asks.rest; choice = asks.choice; asked = a; begun = subst (λ q. HasBegun v w (asked_call v asks) (Some q)) its has; number = number; move = refl; does = moved };
   }
   begun_for w (Err fault) moved number has unstarted same = record { move = None; event = record { cause = unbegun_by fault unstarted; none = refl; same = same } }
 

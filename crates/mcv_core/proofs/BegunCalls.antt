@@ -11,6 +11,7 @@ use Rattle.mcv_plan.specs.declared.state.EvalState.{EvalState}
 use Rattle.mcv_core.specs.declared.begin.Asked.{Asked}
 use Rattle.mcv_core.specs.declared.fault.CoreFault.{CoreFault}
 use Rattle.mcv_core.specs.declared.fault.CoreFault.TheVariants.{LegsFull, ChapterFull}
+use Rattle.mcv_base.specs.declared.request.Request.{Request}
 use Rattle.mcv_route.specs.Tree.{Tree}
 use Rattle.std.proofs.lemmas.Option.{get_or_from_slice_get, slice_get_within}
 use Rattle.mcv_base.specs.declared.operation.Op.{Op}
@@ -55,9 +56,9 @@ use Rattle.mcv_core.specs.Beginning.{CanAdd, CanStart, HasBegun, HasLegRoom, Has
 use Rattle.mcv_core.specs.PlannedLegs.{legs_of_call, planned_legs}
 use Rattle.mcv_core.specs.Calls.{calls_at, room as call_room}
 use Rattle.mcv_core.specs.CoreView.{CoreView, Moved}
-use Rattle.mcv_core.specs.Errands.{errand_view, launch_of}
+use Rattle.mcv_core.specs.Errands.{errand_view, launch_of, laid_request}
 use Rattle.mcv_core.specs.Launching.{errand_at, numbers_of, places_of, with_legs, with_numbers, CanLaunch, IsLaunched}
-use Rattle.mcv_core.specs.Rows.{all_rows, awaiting_state, call_of, call_row, call_rows, entries_of, errand_for, has_outcome, past_of, recorded_all, row_by, rows_by, rows_of, state_of, IsRunning}
+use Rattle.mcv_core.specs.Rows.{all_rows, awaiting_state, call_of, call_row, call_rows, entries_of, errand_for, has_outcome, past_of, recorded_all, row_by, rows_by, rows_of, state_of, IsRunning, load_of}
 use Rattle.mcv_core.specs.Soundness.{one, spooled_one, IsSound}
 use Rattle.mcv_core.specs.CallProgress.{GoesToServers, HasOpened, IsTracked, fresh, is_sent, launch_at, places_from}
 use Rattle.mcv_core.specs.View.{core_view, since_of}
@@ -99,6 +100,9 @@ module _ (d : Dispatcher) (c : Call) (can : CanAdd d c) where
   abbrev new : world.Call
   new = new_call (world_of (core_view d).rows) c.op c.route (call_of c).rest c.choice
 
+  abbrev client : Option Request
+  client = laid_request (arc_value c.laid)
+
   abbrev first : Launch → Bool
   first = is_launched r new
 
@@ -117,7 +121,7 @@ module _ (d : Dispatcher) (c : Call) (can : CanAdd d c) where
   laid = subst (λ v. IsLaidOut r v (entries_of c)) call_is (record { all = can.opened.laid.all; rising = can.opened.laid.rising })
 
   pub moved : Moved (core_view d) (has_begun (core_view d) c) (began_by c)
-  moved = record { allowed = can.begins; moves = began_moves r (core_view d).rows c.op c.route (call_of c).rest c.choice es d.sound.core laid; routes = refl }
+  moved = record { allowed = can.begins; moves = began_moves r (core_view d).rows c.op c.route (call_of c).rest c.choice client es d.sound.core laid; routes = refl }
 
   pub runs_fit : d.counts.running ≤ d.next_call
   runs_fit = let most = at_most_each (call_rows (calls_at d.calls)) d.next_call in let a = d.sound.running_is in omega (arith, most, a)
@@ -192,15 +196,16 @@ module _ (d : Dispatcher) (c : Call) (can : CanAdd d c) where
     abbrev c2 : Call
     c2 = record c { entries = entries2; left = c.left - length (fresh c.state) }
 
-    row_is : call_row c2 ≡ new_row r (core_view d).rows new es
+    row_is : call_row c2 ≡ new_row r (core_view d).rows new client es
     row_is = λ j. record {
       call = call_is j;
+      request = client;
       entries = entries_of c;
       legs = (launched2.numbers ∙ ap (λ v. with_numbers d.next_leg v (numbers_of c.entries.items)) fresh_is ∙ due_numbers first d.next_leg 0 (entries_of c) (numbers_of c.entries.items)
           ∙ ap (numbered first d.next_leg 0 (entries_of c)) (fun_ext no_number)) j;
     }
 
-    legs_rows : (f : State → rows.State) → f Waiting ≡ rows.Waiting → rows_by f (legs q2) ≡ queued_rows first d.next_call (call_of c).rest d.next_leg 0 es (rows_by f (legs d.queues))
+    legs_rows : (f : State → rows.State) → f Waiting ≡ rows.Waiting → rows_by f (legs q2) ≡ queued_rows first d.next_call (load_of c) d.next_leg 0 es (rows_by f (legs d.queues))
     legs_rows f waits =
         ap (rows_by f) (launched2.legs_are ∙ ap (λ v. with_legs d.next_leg v c.entries.items (legs d.queues)) fresh_is) ∙ due_rows d.next_call c first f waits d.next_leg 0 (entries_of c) c.entries.items (legs d.queues) are_ready
 
@@ -240,18 +245,18 @@ module _ (d : Dispatcher) (c : Call) (can : CanAdd d c) where
     }
 
     module _ (calls2 : Calls) (calls2_is : calls_at calls2 ≡ put (calls_at d.calls) d.next_call (Some c2)) where
-      calls_are : call_rows (calls_at calls2) ≡ put (call_rows (calls_at d.calls)) d.next_call (Some (new_row r (core_view d).rows new es))
+      calls_are : call_rows (calls_at calls2) ≡ put (call_rows (calls_at d.calls)) d.next_call (Some (new_row r (core_view d).rows new client es))
       calls_are = ap call_rows calls2_is ∙ call_put (calls_at d.calls) d.next_call (Some c2) ∙ ap (λ v. put (call_rows (calls_at d.calls)) d.next_call (Some v)) row_is
 
       pub rows_are : (f : State → rows.State) → f Waiting ≡ rows.Waiting
-          → all_rows f (calls_at calls2) (legs q2) (since_of d) (suc d.next_call) (d.next_leg + length (fresh c.state)) ≡ began_rows r (all_rows f (calls_at d.calls) (legs d.queues) (since_of d) d.next_call d.next_leg) new es
+          → all_rows f (calls_at calls2) (legs q2) (since_of d) (suc d.next_call) (d.next_leg + length (fresh c.state)) ≡ began_rows r (all_rows f (calls_at d.calls) (legs d.queues) (since_of d) d.next_call d.next_leg) new client es
       rows_are f waits = λ j. record { calls = calls_are j; legs = legs_rows f waits j; since = since_of d; next_call = suc d.next_call; next_leg = ap (λ v. d.next_leg + v) fresh_count j }
 
       moves_by : (f : State → rows.State) → f Waiting ≡ rows.Waiting → IsCore r (all_rows f (calls_at d.calls) (legs d.queues) (since_of d) d.next_call d.next_leg)
           → Moves r (all_rows f (calls_at d.calls) (legs d.queues) (since_of d) d.next_call d.next_leg) (all_rows f (calls_at calls2) (legs q2) (since_of d) (suc d.next_call) (d.next_leg + length (fresh c.state))) (began_by c)
       moves_by f waits core =
           subst (λ v. Moves r (all_rows f (calls_at d.calls) (legs d.queues) (since_of d) d.next_call d.next_leg) v (began_by c)) (sym (rows_are f waits))
-          (began_moves r (all_rows f (calls_at d.calls) (legs d.queues) (since_of d) d.next_call d.next_leg) c.op c.route (call_of c).rest c.choice es core laid)
+          (began_moves r (all_rows f (calls_at d.calls) (legs d.queues) (since_of d) d.next_call d.next_leg) c.op c.route (call_of c).rest c.choice client es core laid)
 
       -- a leg that was there is awaited by none but its own call, which isn't this one
       awaited_less : (n : ℕ) (s : LegRow) → rows_by awaiting_state (legs d.queues) n ≡ Some s → (j : Option ℕ) → s.call ≡ j → awaits (call_rows (calls_at d.calls)) s j ≡ false → awaits (call_rows (calls_at calls2)) s j ≡ false
@@ -262,7 +267,7 @@ module _ (d : Dispatcher) (c : Call) (can : CanAdd d c) where
 
       refused_on : (m : ℕ) (s : LegRow) → rows_by awaiting_state (legs q2) m ≡ Some s → s.state ≡ rows.Held → awaits (call_rows (calls_at calls2)) s s.call ≡ false
       refused_on m s f held =
-          elim (Numbering.rows_back first d.next_call (call_of c).rest d.next_leg 0 (entries_of c) (rows_by awaiting_state (legs d.queues)) m s (sym (ap (λ g. g m) (legs_rows awaiting_state refl)) ∙ f)) [
+          elim (Numbering.rows_back first d.next_call (load_of c) d.next_leg 0 (entries_of c) (rows_by awaiting_state (legs d.queues)) m s (sym (ap (λ g. g m) (legs_rows awaiting_state refl)) ∙ f)) [
             | inl old ↦ awaited_less m s old s.call refl (d.sound.refused m s old held)
             | inr fresh_row ↦ absurd (true≢false (ap (λ v. is_unanswered v.state) fresh_row.is ∙ ap is_unanswered held))
           ]
@@ -288,27 +293,27 @@ module _ (d : Dispatcher) (c : Call) (can : CanAdd d c) where
             calls_run = running_on;
             addressed = subst (λ g. (m : ℕ) (l : Leg Errand) → g m ≡ Some l → l.server ≡ (launch_of l.content).server) (sym launched2.legs_are) (launched_addressed d.next_leg (fresh c.state) c.entries.items (legs d.queues) d.sound.addressed);
             reserved_is =
-                let more = beginning_reserves r w new es in
-                let same : reserved_by r (rows_of (calls_at calls2) (legs q2) (since_of d) (suc d.next_call) (d.next_leg + length (fresh c.state))) ≡ reserved_by r (began_rows r w new es) = ap (reserved_by r) (rows_are state_of refl) in
+                let more = beginning_reserves r w new client es in
+                let same : reserved_by r (rows_of (calls_at calls2) (legs q2) (since_of d) (suc d.next_call) (d.next_leg + length (fresh c.state))) ≡ reserved_by r (began_rows r w new client es) = ap (reserved_by r) (rows_are state_of refl) in
                 let a = d.sound.reserved_is in
                 omega (arith, more, same, a, n, left, reserved);
             queued_is =
-                let more = beginning_queues r w new es in
-                let same : queued_legs (rows_of (calls_at calls2) (legs q2) (since_of d) (suc d.next_call) (d.next_leg + length (fresh c.state))) ≡ queued_legs (began_rows r w new es) = ap queued_legs (rows_are state_of refl) in
+                let more = beginning_queues r w new client es in
+                let same : queued_legs (rows_of (calls_at calls2) (legs q2) (since_of d) (suc d.next_call) (d.next_leg + length (fresh c.state))) ≡ queued_legs (began_rows r w new client es) = ap queued_legs (rows_are state_of refl) in
                 let a = d.sound.queued_is in
                 omega (arith, more, same, a, n, queued);
             spooled_is =
-                let more = spooled_stays first d.next_call (call_of c).rest d.next_leg 0 (entries_of c) (rows_by state_of (legs d.queues)) in
+                let more = spooled_stays first d.next_call (load_of c) d.next_leg 0 (entries_of c) (rows_by state_of (legs d.queues)) in
                 let same : sum_below spooled_one (rows_by state_of (legs q2)) (d.next_leg + length (fresh c.state))
-                ≡ sum_below spooled_one (queued_rows first d.next_call (call_of c).rest d.next_leg 0 (entries_of c) (rows_by state_of (legs d.queues))) (d.next_leg + length (filter first (entries_of c))) =
+                ≡ sum_below spooled_one (queued_rows first d.next_call (load_of c) d.next_leg 0 (entries_of c) (rows_by state_of (legs d.queues))) (d.next_leg + length (filter first (entries_of c))) =
                 ap (λ g. sum_below spooled_one g (d.next_leg + length (fresh c.state))) (legs_rows state_of refl)
-                ∙ ap (λ v. sum_below spooled_one (queued_rows first d.next_call (call_of c).rest d.next_leg 0 (entries_of c) (rows_by state_of (legs d.queues))) (d.next_leg + v)) n in
+                ∙ ap (λ v. sum_below spooled_one (queued_rows first d.next_call (load_of c) d.next_leg 0 (entries_of c) (rows_by state_of (legs d.queues))) (d.next_leg + v)) n in
                 let a = d.sound.spooled_is in
                 omega (arith, more, same, a, spooled);
             running_is =
-                let below = sum_above one (call_rows (calls_at d.calls)) d.next_call (Some (new_row r w new es)) d.next_call (omega arith) in
-                let here : one (put (call_rows (calls_at d.calls)) d.next_call (Some (new_row r w new es)) d.next_call) ≡ 1 = ap one (put_same (call_rows (calls_at d.calls)) d.next_call (Some (new_row r w new es))) in
-                let same : sum_below one (call_rows (calls_at calls2)) (suc d.next_call) ≡ sum_below one (put (call_rows (calls_at d.calls)) d.next_call (Some (new_row r w new es))) (suc d.next_call) = ap (λ g. sum_below one g (suc d.next_call)) calls_are in
+                let below = sum_above one (call_rows (calls_at d.calls)) d.next_call (Some (new_row r w new client es)) d.next_call (omega arith) in
+                let here : one (put (call_rows (calls_at d.calls)) d.next_call (Some (new_row r w new client es)) d.next_call) ≡ 1 = ap one (put_same (call_rows (calls_at d.calls)) d.next_call (Some (new_row r w new client es))) in
+                let same : sum_below one (call_rows (calls_at calls2)) (suc d.next_call) ≡ sum_below one (put (call_rows (calls_at d.calls)) d.next_call (Some (new_row r w new client es))) (suc d.next_call) = ap (λ g. sum_below one g (suc d.next_call)) calls_are in
                 let a = d.sound.running_is in
                 omega (arith, below, here, same, a, running_is);
             room_is = let fit = can.legs_fit in omega (arith, fit, reserved, wide);
@@ -444,7 +449,7 @@ moved_as d d2 asks state launches c new number since same made h =
     (subst (λ m. Moved (core_view d2) new m) (λ j. Began (made.op j) (made.route j) (made.rest j) (made.choice j)) h)
 
 pub has_begun_as : (d d2 : Dispatcher) (asks : Asked) (state : EvalState) (launches : List Launch) (c : Call) (new : CoreView) (number : ℕ) (since : Option Moment) → core_view d2 ≡ core_view d → IsNewCall number since asks state launches c
-    → new ≡ has_begun (core_view d2) c → launches ≡ legs_of_call (arc_value d.accepted) (asked_call (core_view d) asks) → HasRoom d (length launches) → HasBegun (core_view d) new (asked_call (core_view d) asks)
+    → new ≡ has_begun (core_view d2) c → launches ≡ legs_of_call (arc_value d.accepted) (asked_call (core_view d) asks) → HasRoom d (length launches) → HasBegun (core_view d) new (asked_call (core_view d) asks) (Some (arc_value asks.request))
 has_begun_as d d2 asks state launches c new number since same made is planned fits =
     let count : length launches ≡ reservation (core_view d) (asked_call (core_view d) asks) = ap length planned in
     record {
@@ -453,10 +458,10 @@ has_begun_as d d2 asks state launches c new number since same made is planned fi
       view =
           is ∙ ap (λ v. has_begun v c) same
           ∙ (λ j. record (core_view d) {
-            rows = began_rows (arc_value d.accepted) (core_view d).rows (new_call (world_of (core_view d).rows) (made.op j) (made.route j) (made.rest j) (made.choice j)) (made.entries j);
+            rows = began_rows (arc_value d.accepted) (core_view d).rows (new_call (world_of (core_view d).rows) (made.op j) (made.route j) (made.rest j) (made.choice j)) (made.request j) (made.entries j);
             entries = d.entries + (2 + 3 * length (made.entries j));
           })
-          ∙ ap (λ es. record (core_view d) { rows = began_rows (arc_value d.accepted) (core_view d).rows (asked_call (core_view d) asks) es; entries = d.entries + (2 + 3 * length es) }) planned;
+          ∙ ap (λ es. record (core_view d) { rows = began_rows (arc_value d.accepted) (core_view d).rows (asked_call (core_view d) asks) (Some (arc_value asks.request)) es; entries = d.entries + (2 + 3 * length es) }) planned;
     }
 
 -- ---- a call that is made can be added

@@ -153,7 +153,7 @@ module _ (before : List OpenedRecord) (numbers : List ℕ) (old : ℕ → Option
     added = record { server = server; state = InSpool; «record» = Some seq; content = e }
 
     row_is : (f : State → rows.State) → f InSpool ≡ rows.InSpool → row_by f added ≡ spooled_row (server.0, rest)
-    row_is f spools = λ j. record { call = is.call j; entry = is.entry j; launch = is.launch j; rest = is.rest_is j; state = spools j }
+    row_is f spools = λ j. record { call = is.call j; entry = is.entry j; launch = is.launch j; rest = is.rest_is j; request = is.request j; state = spools j }
 
     at_each : (f : State → rows.State) → f InSpool ≡ rows.InSpool → (n : ℕ) → rows_by f (put old count (Some added)) n ≡ option_map spooled_row (slice_get (before ++ (server.0, rest) ∷ []) n)
     at_each f spools n = elim (cases_eq count n) [

@@ -16,9 +16,9 @@ use Rattle.mcv_events.specs.Rows.{numbered, queued_rows, waiting}
 use Rattle.mcv_core.specs.declared.call.Call.{Call}
 use Rattle.mcv_core.specs.declared.errand.Errand.{Errand}
 use Rattle.mcv_core.specs.declared.launch.Entry.{Entry}
-use Rattle.mcv_core.specs.Errands.{ErrandView, errand_view, launch_in}
+use Rattle.mcv_core.specs.Errands.{ErrandView, errand_view, launch_in, laid_request}
 use Rattle.mcv_core.specs.Launching.{errand_at, waiting_leg, with_legs, with_numbers}
-use Rattle.mcv_core.specs.Rows.{call_of, entries_of, errand_for, row_by, rows_by}
+use Rattle.mcv_core.specs.Rows.{call_of, entries_of, errand_for, row_by, rows_by, load_of}
 
 -- ---- members
 
@@ -103,7 +103,7 @@ put_rows f legs n o = fun_ext (λ m. by_cases (nat_eq n m) m)
 
 -- the row of a leg that is launched
 abbrev row_in : (State → rows.State) → ErrandView → rows.LegRow
-row_in f v = record { call = v.call; entry = v.entry; launch = launch_in v; rest = arc_value v.laid.rest; state = f Waiting }
+row_in f v = record { call = v.call; entry = v.entry; launch = launch_in v; rest = arc_value v.laid.rest; request = laid_request v.laid; state = f Waiting }
 
 seen_row : (f : State → rows.State) (o : Option Errand) → option_map (row_by f) (option_map waiting_leg o) ≡ option_map (row_in f) (option_map errand_view o)
 seen_row f None = refl
@@ -116,13 +116,13 @@ AreReady k c due from es entries =
 
 module _ (k : ℕ) (c : Call) (due : Launch → Bool) (f : State → rows.State) (waits : f Waiting ≡ rows.Waiting) where
   pub due_rows : (n from : ℕ) (es : List Launch) (entries : List Entry) (legs : ℕ → Option (Leg Errand)) → AreReady k c due from es entries
-      → rows_by f (with_legs n (places_from from due es) entries legs) ≡ queued_rows due k (call_of c).rest n from es (rows_by f legs)
+      → rows_by f (with_legs n (places_from from due es) entries legs) ≡ queued_rows due k (load_of c) n from es (rows_by f legs)
   due_rows n from [] entries legs ready = refl
   due_rows n from (l ∷ es) entries legs ready =
       let rest_ready : AreReady k c due (suc from) es entries = λ j m at t.
       let q : from + suc j ≡ suc from + j = omega arith in
       subst (λ v. (option_map errand_view (errand_at entries v) ≡ Some (errand_for k c v)) × (launch_at (entries_of c) v ≡ m)) q (ready (suc j) m at t) in
-      let branches = λ (b : Bool). cond b (queued_rows due k (call_of c).rest (suc n) (suc from) es (put (rows_by f legs) n (Some (waiting k from (call_of c).rest l)))) (queued_rows due k (call_of c).rest n (suc from) es (rows_by f legs)) in
+      let branches = λ (b : Bool). cond b (queued_rows due k (load_of c) (suc n) (suc from) es (put (rows_by f legs) n (Some (waiting k from (load_of c) l)))) (queued_rows due k (load_of c) n (suc from) es (rows_by f legs)) in
       let launching = λ (b : Bool). rows_by f (with_legs n (cond b (from ∷ places_from (suc from) due es) (places_from (suc from) due es)) entries legs) in
       elim (cases_Bool (due l)) [
         | inl t ↦
@@ -130,14 +130,14 @@ module _ (k : ℕ) (c : Call) (due : Launch → Bool) (f : State → rows.State)
             let zero : from + 0 ≡ from = omega arith in
             let errand : option_map errand_view (errand_at entries from) ≡ Some (errand_for k c from) = subst (λ v. option_map errand_view (errand_at entries v) ≡ Some (errand_for k c v)) zero here.0 in
             let launch : launch_at (entries_of c) from ≡ l = subst (λ v. launch_at (entries_of c) v ≡ l) zero here.1 in
-            let row : rows_by f (put legs n (option_map waiting_leg (errand_at entries from))) ≡ put (rows_by f legs) n (Some (waiting k from (call_of c).rest l)) =
+            let row : rows_by f (put legs n (option_map waiting_leg (errand_at entries from))) ≡ put (rows_by f legs) n (Some (waiting k from (load_of c) l)) =
             put_rows f legs n (option_map waiting_leg (errand_at entries from))
             ∙ ap (put (rows_by f legs) n) (seen_row f (errand_at entries from) ∙ ap (option_map (row_in f)) errand)
-            ∙ ap (λ v. put (rows_by f legs) n (Some (record { call = Some k; entry = from; launch = launch_at (entries_of c) from; rest = (call_of c).rest; state = v }))) waits
-            ∙ ap (λ v. put (rows_by f legs) n (Some (waiting k from (call_of c).rest v))) launch in
+            ∙ ap (λ v. put (rows_by f legs) n (Some (record { call = Some k; entry = from; launch = launch_at (entries_of c) from; rest = (call_of c).rest; request = laid_request (arc_value c.laid); state = v }))) waits
+            ∙ ap (λ v. put (rows_by f legs) n (Some (waiting k from (load_of c) v))) launch in
             ap launching t
             ∙ due_rows (suc n) (suc from) es entries (put legs n (option_map waiting_leg (errand_at entries from))) rest_ready
-            ∙ ap (λ g. queued_rows due k (call_of c).rest (suc n) (suc from) es g) row
+            ∙ ap (λ g. queued_rows due k (load_of c) (suc n) (suc from) es g) row
             ∙ sym (ap branches t)
         | inr t ↦ ap launching t ∙ due_rows n (suc from) es entries legs rest_ready ∙ sym (ap branches t)
       ]

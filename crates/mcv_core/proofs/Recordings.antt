@@ -1,5 +1,6 @@
 -- A call records a reply, and launches what is due then.
 use Rattle.std.proofs.Common.{◌≡◌, ◌&&◌, not, cond, inl, inr, ℕ, zero, suc, ◌+◌, ◌-◌, ◌<◌, ◌≤◌, ◌^◌, Bool, true, false, nat_eq, nat_lt, List, [], ◌∷◌, ◌++◌, length, fold, Vec, Option, Some, None, option_map, refl, sym, ap, ◌∙◌, subst, arith, true≢false, length-append, vec_capacity}
+use Rattle.std.specs.Arc.{arc_value}
 use Rattle.std.specs.declared.alloc.Global.{Global}
 use Rattle.std.specs.Prelude.{filter, is_some, slice_get, option_and_then}
 use Rattle.std.proofs.Math.Path.{fun_ext}
@@ -30,10 +31,10 @@ use Rattle.mcv_core.specs.declared.call.Recorded.{Recorded}
 use Rattle.mcv_core.specs.declared.call.Recording.{Recording}
 use Rattle.mcv_core.specs.declared.errand.Errand.{Errand}
 use Rattle.mcv_core.specs.declared.launch.Entry.{Entry}
-use Rattle.mcv_core.specs.Errands.{ErrandView, errand_view, launch_in}
+use Rattle.mcv_core.specs.Errands.{ErrandView, errand_view, launch_in, laid_request}
 use Rattle.mcv_core.specs.Launching.{errand_at, numbers_of, places_of, is_ready, with_legs, with_numbers, CanLaunch, IsLaunched}
 use Rattle.mcv_core.specs.Recordings.{has_ended_by, AreAddressed, HasRecorded, IsNoted}
-use Rattle.mcv_core.specs.Rows.{call_of, call_row, entries_of, errand_for, has_outcome, rows_by, past_next, past_of, recorded_all, recorded_next, taken_at, IsRunning}
+use Rattle.mcv_core.specs.Rows.{call_of, call_row, entries_of, errand_for, has_outcome, rows_by, past_next, past_of, recorded_all, recorded_next, taken_at, IsRunning, load_of}
 use Rattle.mcv_core.proofs.EntryCounts.{all_by_count, count, count_below, count_both, count_more, count_one_more, count_up}
 use Rattle.mcv_core.proofs.Launches.{get_below, launched_addressed}
 use Rattle.mcv_core.proofs.StateFollowsOutcomes.{at_launch, there_at}
@@ -223,9 +224,9 @@ module _ (r : RoutesValue) (w : Rows) (k : ℕ) (c : Call) (e : ℕ) (i : IsCore
           ∙ ap (numbered due w.next_leg 0 (entries_of c)) (fun_ext noted.numbers)
 
       pub row_is : call_row c2 ≡ recorded_row r w (call_row c) p x
-      row_is = λ j. record { call = call_is j; entries = entries_of c; legs = numbers_are j }
+      row_is = λ j. record { call = call_is j; request = laid_request (arc_value c.laid); entries = entries_of c; legs = numbers_are j }
 
-      pub rows_are : (f : State → rows.State) → f Waiting ≡ rows.Waiting → rows_by f legs2 ≡ queued_rows due k (call_of c).rest w.next_leg 0 (entries_of c) (rows_by f legs)
+      pub rows_are : (f : State → rows.State) → f Waiting ≡ rows.Waiting → rows_by f legs2 ≡ queued_rows due k (load_of c) w.next_leg 0 (entries_of c) (rows_by f legs)
       rows_are f waits =
           ap (rows_by f) (launched2.legs_are ∙ ap (λ v. with_legs w.next_leg v c1.entries.items legs) fresh_is)
           ∙ due_rows k c due f waits w.next_leg 0 (entries_of c) c1.entries.items legs are_ready

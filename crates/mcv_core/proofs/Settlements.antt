@@ -32,7 +32,7 @@ use Rattle.mcv_core.specs.declared.call.Recording.{Recording}
 use Rattle.mcv_core.specs.declared.errand.Errand.{Errand}
 use Rattle.mcv_core.specs.Errands.{launch_of}
 use Rattle.mcv_core.specs.Recordings.{AreAddressed, HasRecorded}
-use Rattle.mcv_core.specs.Rows.{all_rows, awaiting_state, call_of, call_row, call_rows, entries_of, row_by, rows_by, rows_of, state_of, IsRunning}
+use Rattle.mcv_core.specs.Rows.{all_rows, awaiting_state, call_of, call_row, call_rows, entries_of, row_by, rows_by, rows_of, state_of, IsRunning, load_of}
 use Rattle.mcv_core.specs.Soundness.{one, spooled_in, spooled_one, IsSound}
 use Rattle.mcv_core.proofs.Launches.{get_below}
 use Rattle.mcv_core.proofs.Places.{put_rows}
@@ -232,7 +232,7 @@ module _ (r : RoutesValue) (calls : ℕ → Option Call) (legs : ℕ → Option 
 
     refused2 : (m : ℕ) (s : LegRow) → rows_by awaiting_state legs2 m ≡ Some s → s.state ≡ rows.Held → awaits (call_rows calls2) s s.call ≡ false
     refused2 m s f held =
-        elim (Numbering.rows_back due k (call_of c).rest next_leg 0 (entries_of c) (rows_by awaiting_state legs1) m s (sym (ap (λ g. g m) (h.rows awaiting_state refl)) ∙ f)) [
+        elim (Numbering.rows_back due k (load_of c) next_leg 0 (entries_of c) (rows_by awaiting_state legs1) m s (sym (ap (λ g. g m) (h.rows awaiting_state refl)) ∙ f)) [
           | inl old ↦
               elim (put_cases (rows_by awaiting_state legs) n m (option_map (row_by awaiting_state) o) s (sym (legs1_at awaiting_state m) ∙ old)) [
                 | inl q ↦
@@ -324,10 +324,10 @@ module _ (r : RoutesValue) (calls : ℕ → Option Call) (legs : ℕ → Option 
         let old : spooled_one (rows_by state_of legs n) ≡ spooled_in (state_of l.state) = ap spooled_one (here state_of) in
         let first : sum_below spooled_one (rows_by state_of legs1) next_leg ≡ sum_below spooled_one (put (rows_by state_of legs) n (option_map (row_by state_of) o)) next_leg =
         ap (λ g. sum_below spooled_one g next_leg) (ap (rows_by state_of) legs1_is ∙ put_rows state_of legs n o) in
-        let more = spooled_stays due k (call_of c).rest next_leg 0 (entries_of c) (rows_by state_of legs1) in
-        let same : sum_below spooled_one (rows_by state_of legs2) (next_leg + result.launched) ≡ sum_below spooled_one (queued_rows due k (call_of c).rest next_leg 0 (entries_of c) (rows_by state_of legs1)) (next_leg + length (filter due (entries_of c))) =
+        let more = spooled_stays due k (load_of c) next_leg 0 (entries_of c) (rows_by state_of legs1) in
+        let same : sum_below spooled_one (rows_by state_of legs2) (next_leg + result.launched) ≡ sum_below spooled_one (queued_rows due k (load_of c) next_leg 0 (entries_of c) (rows_by state_of legs1)) (next_leg + length (filter due (entries_of c))) =
         ap (λ g. sum_below spooled_one g (next_leg + result.launched)) (h.rows state_of refl)
-        ∙ ap (λ v. sum_below spooled_one (queued_rows due k (call_of c).rest next_leg 0 (entries_of c) (rows_by state_of legs1)) (next_leg + v)) h.launched in
+        ∙ ap (λ v. sum_below spooled_one (queued_rows due k (load_of c) next_leg 0 (entries_of c) (rows_by state_of legs1)) (next_leg + v)) h.launched in
         let a = i.spooled_is in
         omega (arith, put_one, old, first, more, same, a)
 

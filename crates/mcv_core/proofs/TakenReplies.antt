@@ -152,8 +152,8 @@ module _ (r : RoutesValue) (k : ℕ) (c : Call) (run : IsRunning r k c) (d : Cal
   pub taken_call : call_of d ≡ record (call_of c) { taken = d.taken }
   taken_call = ap call_of took.same ∙ ap (λ v. record (call_of c) { recorded = v; taken = d.taken }) recorded_same
 
-  pub taken_row : call_row d ≡ record { call = record (call_of c) { taken = d.taken }; entries = entries_of c; legs = (call_row c).legs }
-  taken_row = ap call_row took.same ∙ ap (λ v. record { call = record (call_of c) { recorded = v; taken = d.taken }; entries = entries_of c; legs = (call_row c).legs }) recorded_same
+  pub taken_row : call_row d ≡ record { call = record (call_of c) { taken = d.taken }; request = (call_row c).request; entries = entries_of c; legs = (call_row c).legs }
+  taken_row = ap call_row took.same ∙ ap (λ v. record { call = record (call_of c) { recorded = v; taken = d.taken }; request = (call_row c).request; entries = entries_of c; legs = (call_row c).legs }) recorded_same
 
   pub left_is : d.left ≡ c.left
   left_is = ap (λ v. v.left) took.same

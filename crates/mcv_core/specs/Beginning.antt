@@ -2,6 +2,7 @@
 use Rattle.std.specs.Arc.{arc_value}
 use Rattle.std.specs.Prelude.{◌≡◌, ◌<◌, ◌≤◌, ◌+◌, ◌*◌, ◌^◌, ℕ, false, List, [], Option, Some, None, ⊤, length, option_map, slice_get, slice_index, vec_capacity}
 use Rattle.mcv_base.specs.declared.request.Moment.{Moment}
+use Rattle.mcv_base.specs.declared.request.Request.{Request}
 use Rattle.mcv_plan.specs.declared.state.EvalState.{EvalState}
 use Rattle.mcv_queues.specs.Queues.{room as leg_room}
 use Rattle.mcv_route.specs.declared.launch.Launch.{Launch}
@@ -21,6 +22,7 @@ use Rattle.mcv_core.specs.Calls.{room as call_room}
 use Rattle.mcv_core.specs.CoreView.{CoreView}
 use Rattle.mcv_core.specs.Rows.{call_of, entries_of}
 use Rattle.mcv_core.specs.CallProgress.{GoesToServers, HasOpened}
+use Rattle.mcv_core.specs.Errands.{laid_request}
 use Rattle.mcv_core.specs.PlannedLegs.{legs_of_call}
 use Rattle.mcv_core.specs.declared.begin.Asked.{Asked}
 use Rattle.mcv_core.specs.declared.call.Call.{Call}
@@ -34,7 +36,7 @@ use Rattle.mcv_core.specs.declared.launch.Entry.{Entry}
 -- so many legs more fit: at most 65,536 are queued or reserved, and numbers are below 2^64
 pub record LegsFit (v : CoreView) (count : ℕ) : Type 0 where
   pub limit : queued_legs v.rows + reserved v.routes v.rows + count ≤ 65536
-  pub calls : v.rows.next_call + 1 < 2 ^ 64
+  pub calls : v.rows.next_call < 2 ^ 64
   pub legs : v.rows.next_leg + reserved v.routes v.rows + count < 2 ^ 64
 
 -- how many entries of the history a call may write that can launch so many legs: two of its own, and three for each leg
@@ -49,15 +51,15 @@ HistoryFits v count = v.entries + entries_for count ≤ 1000000
 abbrev pub reservation : CoreView → world.Call → ℕ
 reservation v call = length (legs_of_call v.routes call)
 
--- the call is added with all legs that it can launch, and what it launches at once waits
-abbrev pub begun : CoreView → world.Call → CoreView
-begun v call = record v { rows = began_rows v.routes v.rows call (legs_of_call v.routes call); entries = v.entries + entries_for (reservation v call) }
+-- the call is added with all legs that it can launch, and what it launches at once waits; its legs take the request along
+abbrev pub begun : CoreView → world.Call → Option Request → CoreView
+begun v call request = record v { rows = began_rows v.routes v.rows call request (legs_of_call v.routes call); entries = v.entries + entries_for (reservation v call) }
 
 -- the call fits, and begins
-pub record HasBegun (v w : CoreView) (call : world.Call) : Type 0 where
+pub record HasBegun (v w : CoreView) (call : world.Call) (request : Option Request) : Type 0 where
   pub legs_fit : LegsFit v (reservation v call)
   pub history_fits : HistoryFits v (reservation v call)
-  pub view : w ≡ begun v call
+  pub view : w ≡ begun v call request
 
 -- why it doesn't: the legs are looked at before the history. Memory may run out at any time
 abbrev pub IsFull : CoreView → world.Call → CoreFault → Type 0
@@ -118,6 +120,7 @@ pub record IsNewCall (number : ℕ) (since : Option Moment) (asked : Asked) (sta
   pub since_is : c.since ≡ since
   pub choice : c.choice ≡ asked.choice
   pub rest : arc_value (arc_value c.laid).rest ≡ arc_value asked.rest
+  pub request : laid_request (arc_value c.laid) ≡ Some (arc_value asked.request)
   pub state_is : c.state ≡ state
   pub entries : entries_of c ≡ launches
   pub unlaunched : IsUnlaunched number c
@@ -125,7 +128,7 @@ pub record IsNewCall (number : ℕ) (since : Option Moment) (asked : Asked) (sta
 -- what the code counts says that so many legs more fit
 pub record HasLegRoom (d : Dispatcher) (count : ℕ) : Type 0 where
   pub legs : d.counts.queued + d.counts.reserved + count ≤ 65536
-  pub call_numbers : d.next_call + 1 < 2 ^ 64
+  pub call_numbers : d.next_call < 2 ^ 64
   pub leg_numbers : d.next_leg + d.counts.reserved + count < 2 ^ 64
 
 -- and so many entries of the history
@@ -148,7 +151,7 @@ pub record CanAdd (d : Dispatcher) (c : Call) : Type 0 where
   pub legs_fit : d.counts.reserved + c.left ≤ leg_room d.queues
 
 abbrev pub has_begun : CoreView → Call → CoreView
-has_begun v c = record v { rows = began_rows v.routes v.rows (new_call (world_of v.rows) c.op c.route (call_of c).rest c.choice) (entries_of c); entries = v.entries + entries_for (length (entries_of c)) }
+has_begun v c = record v { rows = began_rows v.routes v.rows (new_call (world_of v.rows) c.op c.route (call_of c).rest c.choice) (laid_request (arc_value c.laid)) (entries_of c); entries = v.entries + entries_for (length (entries_of c)) }
 
 -- the call's entries are laid out, and fit
 pub record CanStart (d : Dispatcher) (asks : Asked) (state : EvalState) (launches : List Launch) : Type 0 where

@@ -1,6 +1,7 @@
 -- What a leg does (own).
-use Rattle.std.specs.Prelude.{ℕ, List, Option}
+use Rattle.std.specs.Prelude.{ℕ, List, Option, option_map}
 use Rattle.std.specs.Arc.{arc_value}
+use Rattle.mcv_base.specs.declared.request.Request.{Request}
 use Rattle.mcv_route.specs.declared.launch.Launch.{Launch}
 use Rattle.mcv_core.specs.CallProgress.{launch_at}
 use Rattle.mcv_core.specs.declared.errand.Errand.{Errand}
@@ -15,6 +16,10 @@ launch_of e = launch_at (launches_of e) e.entry
 
 abbrev pub rest_of : Errand → List ℕ
 rest_of e = arc_value (arc_value e.laid).rest
+
+-- what the client asked whose call has these legs
+abbrev pub laid_request : Laid → Option Request
+laid_request laid = option_map arc_value laid.request
 
 -- an errand, without where what it shares lies in memory
 pub record ErrandView : Type 0 where

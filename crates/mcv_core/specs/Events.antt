@@ -49,7 +49,7 @@ pub record Begins (v : CoreView) (chosen : SymbolValue → List ℕ → ℕ) (re
   pub rest : List ℕ
   pub choice : List ℕ
   pub asked : IsAsked v.routes chosen request key op route rest choice
-  pub begun : HasBegun v w (new_call (world_of v.rows) op route rest choice)
+  pub begun : HasBegun v w (new_call (world_of v.rows) op route rest choice) (Some request)
   pub number : call.0 ≡ v.rows.next_call
   pub move : m ≡ Some (Began op route rest choice)
   pub does : Moved v w (Began op route rest choice)

@@ -1,5 +1,6 @@
 -- A core is opened with the records that the spool held (own).
 use Rattle.std.specs.Prelude.{◌≡◌, ℕ, List, [], ◌∷◌, Option, Some, None, length, option_map, slice_get}
+use Rattle.std.specs.Arc.{arc_value}
 use Rattle.std.specs.Str.{bytes_eq}
 use Rattle.mcv_base.specs.declared.operation.Mark.TheVariants.{Plain}
 use Rattle.mcv_base.specs.declared.operation.Op.TheVariants.{Delete}
@@ -16,7 +17,7 @@ use Rattle.mcv_events.specs.Rows as rows
 use Rattle.mcv_events.specs.Runs.{OpenedRecord, opened, spooled_row}
 use Rattle.mcv_core.specs.CoreView.{CoreView}
 use Rattle.mcv_core.specs.declared.errand.Errand.{Errand}
-use Rattle.mcv_core.specs.Errands.{launch_of, rest_of}
+use Rattle.mcv_core.specs.Errands.{laid_request, launch_of, rest_of}
 use Rattle.mcv_core.specs.Facts.{records_in}
 use Rattle.mcv_core.specs.Recordings.{AreAddressed}
 use Rattle.mcv_core.specs.Rows.{rows_by}
@@ -58,6 +59,7 @@ pub record IsOpenedErrand (server : ServerId) (rest : List ℕ) (e : Errand) : T
   pub entry : e.entry ≡ 0
   pub launch : launch_of e ≡ record { position = []; server = server; op = Delete; mark = Plain }
   pub rest_is : rest_of e ≡ rest
+  pub request : laid_request (arc_value e.laid) ≡ None
 
 -- the legs are those of these records, numbered from 0 in their order, and have the numbers of these records
 pub record AreOpened (records : List OpenedRecord) (numbers : List ℕ) (legs : ℕ → Option (Leg Errand)) (count : ℕ) : Type 0 where

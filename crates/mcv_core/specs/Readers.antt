@@ -5,13 +5,13 @@ use Rattle.mcv_base.specs.declared.operation.Mark.{Mark}
 use Rattle.mcv_base.specs.declared.operation.Op.{Op}
 use Rattle.mcv_base.specs.declared.request.Request.{Request}
 use Rattle.mcv_base.specs.declared.request.ServerId.{ServerId}
-use Rattle.mcv_queues.specs.declared.leg.Leg.{Leg}
 use Rattle.mcv_queues.specs.Numbers.{IsLeast}
-use Rattle.mcv_queues.specs.Queues.{legs}
 use Rattle.mcv_events.specs.Rows as rows
 use Rattle.mcv_events.specs.Rows.{CallRow, LegRow, Rows, awaits}
 use Rattle.mcv_core.specs.declared.dispatcher.Dispatcher.{Dispatcher}
 use Rattle.mcv_core.specs.declared.errand.Errand.{Errand}
+use Rattle.mcv_core.specs.Errands.{laid_request}
+use Rattle.mcv_core.specs.View.{core_view}
 use Rattle.mcv_core.specs.declared.readers.CallView.{CallView}
 use Rattle.mcv_core.specs.declared.readers.LegView.{LegView}
 use Rattle.mcv_core.specs.declared.step.LegState.{LegState}
@@ -78,7 +78,7 @@ seen_row s = record { call = s.call; server = s.launch.server; op = s.launch.op;
 
 -- what the client asked whose call launched the leg
 abbrev pub request_in : Errand → Option Request
-request_in e = option_map arc_value (arc_value e.laid).request
+request_in e = laid_request (arc_value e.laid)
 
 abbrev pub request_of : Dispatcher → ℕ → Option Request
-request_of d n = option_and_then (λ (l : Leg Errand). request_in l.content) (legs d.queues n)
+request_of d n = option_and_then (λ s. s.request) ((core_view d).rows.legs n)

@@ -18,7 +18,7 @@ use Rattle.mcv_core.specs.declared.call.Recording.{Recording}
 use Rattle.mcv_core.specs.declared.errand.Errand.{Errand}
 use Rattle.mcv_core.specs.Errands.{launch_of}
 use Rattle.mcv_core.specs.Launching.{errand_at, numbers_of, places_of}
-use Rattle.mcv_core.specs.Rows.{call_of, call_row, entries_of, rows_by, IsRunning}
+use Rattle.mcv_core.specs.Rows.{call_of, call_row, entries_of, load_of, rows_by, IsRunning}
 
 -- its reply was taken, and it has recorded as many as are launched
 abbrev pub has_ended_by : Call → Bool
@@ -54,7 +54,7 @@ AreAddressed legs = (n : ℕ) (l : Leg Errand) → legs n ≡ Some l → l.serve
 pub record HasRecorded (r : RoutesValue) (w : Rows) (k : ℕ) (c d : Call) (e : ℕ) (x : ReplyValue) (legs after : ℕ → Option (Leg Errand)) (result : Recording) : Type 0 where
   pub row : call_row d ≡ recorded_row r w (call_row c) (launch_at (entries_of c) e).position x
   pub rows : (f : State → rows.State) → f Waiting ≡ rows.Waiting
-      → rows_by f after ≡ queued_rows (is_due r (call_of c) (with_reply (call_of c) (launch_at (entries_of c) e).position x)) k (call_of c).rest w.next_leg 0 (entries_of c) (rows_by f legs)
+      → rows_by f after ≡ queued_rows (is_due r (call_of c) (with_reply (call_of c) (launch_at (entries_of c) e).position x)) k (load_of c) w.next_leg 0 (entries_of c) (rows_by f legs)
   pub running : IsRunning r k d
   pub launched : result.launched ≡ length (filter (is_due r (call_of c) (with_reply (call_of c) (launch_at (entries_of c) e).position x)) (entries_of c))
   pub left : result.left ≡ length (filter (λ l. not (is_launched r (call_of d) l)) (entries_of d))

@@ -13,11 +13,11 @@ use Rattle.mcv_world.specs.World as world
 use Rattle.mcv_world.specs.World.{tree_of, situation_of, choice_of, history_of, reply_at}
 use Rattle.mcv_events.specs.Entries.{is_launched}
 use Rattle.mcv_events.specs.Rows as rows
-use Rattle.mcv_events.specs.Rows.{State, LegRow, CallRow, Rows}
+use Rattle.mcv_events.specs.Rows.{State, LegRow, CallRow, Payload, Rows, payload_of}
 use Rattle.mcv_core.specs.declared.call.Call.{Call}
 use Rattle.mcv_core.specs.declared.call.Recorded.{Recorded}
 use Rattle.mcv_core.specs.declared.errand.Errand.{Errand}
-use Rattle.mcv_core.specs.Errands.{ErrandView, errand_view, launch_of, rest_of}
+use Rattle.mcv_core.specs.Errands.{ErrandView, errand_view, laid_request, launch_of, rest_of}
 use Rattle.mcv_core.specs.Launching.{errand_at, numbers_of, places_of}
 
 -- ---- calls
@@ -53,7 +53,11 @@ call_of c = record {
 }
 
 abbrev pub call_row : Call → CallRow
-call_row c = record { call = call_of c; entries = entries_of c; legs = numbers_of c.entries.items }
+call_row c = record { call = call_of c; request = laid_request (arc_value c.laid); entries = entries_of c; legs = numbers_of c.entries.items }
+
+-- what its legs take along
+abbrev pub load_of : Call → Payload
+load_of c = payload_of (call_row c)
 
 -- ---- legs
 
@@ -77,7 +81,7 @@ awaiting_state states.InReplay = rows.InSpool
 
 -- a leg's row, by what its state is taken for
 abbrev pub row_by : (queued.State → State) → Leg Errand → LegRow
-row_by f l = record { call = l.content.call; entry = l.content.entry; launch = launch_of l.content; rest = rest_of l.content; state = f l.state }
+row_by f l = record { call = l.content.call; entry = l.content.entry; launch = launch_of l.content; rest = rest_of l.content; request = laid_request (arc_value l.content.laid); state = f l.state }
 
 abbrev pub rows_by : (queued.State → State) → (ℕ → Option (Leg Errand)) → ℕ → Option LegRow
 rows_by f legs n = option_map (row_by f) (legs n)

@@ -143,7 +143,7 @@ impl Counts {
     fn begun(self, count: usize, launched: usize) -> Counts
         requires within { launched ≤ count }
         requires small { self.queued + self.reserved + count ≤ 65536 }
-        requires running { self.running + 1 < 2 ^ 64 }
+        requires running { self.running + 1 < 2 ^ 128 }
         ensures reserved { result.reserved + launched ≡ self.reserved + count }
         ensures queued { result.queued ≡ self.queued + launched }
         ensures spooled { result.spooled ≡ self.spooled }
@@ -165,7 +165,7 @@ impl Dispatcher {
         requires choice { IsChoice (sizes_of (core_view self.old).routes) (slice_index asked.choice) }
         ensures moves { OnOk result (Moved (core_view self.old) (core_view self.new) (began_for asked)) }
         ensures call { IfOk result (λ call. call.0 ≡ (core_view self.old).rows.next_call) }
-        ensures view { OnOk result (HasBegun (core_view self.old) (core_view self.new) (asked_call (core_view self.old) asked)) }
+        ensures view { OnOk result (HasBegun (core_view self.old) (core_view self.new) (asked_call (core_view self.old) asked) (Some (arc_value asked.request))) }
         ensures refused { IfErr result (IsUnstarted (core_view self.old) asked) }
         ensures err { OnErr result (core_view self.new ≡ core_view self.old) }
     {
@@ -197,14 +197,15 @@ impl Dispatcher {
         requires can { CanStart self.old asked state launches.items }
         ensures moves { OnOk result (Moved (core_view self.old) (core_view self.new) (began_for asked)) }
         ensures call { IfOk result (λ call. call.0 ≡ (core_view self.old).rows.next_call) }
-        ensures view { OnOk result (HasBegun (core_view self.old) (core_view self.new) (asked_call (core_view self.old) asked)) }
+        ensures view { OnOk result (HasBegun (core_view self.old) (core_view self.new) (asked_call (core_view self.old) asked) (Some (arc_value asked.request))) }
         ensures memory { IfErr result (λ fault. fault ≡ OutOfMemory) }
         ensures err { OnErr result (core_view self.new ≡ core_view self.old) }
     {
         self.make_room(launches.len())?;
         routes_are_sound(self.accepted.routes());
         rest_is_sound(&asked.rest);
-        let call = new_call(alloc, self.next_call, self.since, asked, state, launches)?;
+        let number = self.next_call as u64;
+        let call = new_call(alloc, number, self.since, asked, state, launches)?;
         Ok(self.add(call))
     }
 
@@ -218,7 +219,7 @@ impl Dispatcher {
         if count > LEG_LIMIT - self.counts.queued - self.counts.reserved {
             return Err(CoreFault::LegsFull);
         }
-        if self.next_call == u64::MAX {
+        if self.next_call > u64::MAX as u128 {
             return Err(CoreFault::LegsFull);
         }
         if u64::MAX - self.next_leg < (self.counts.reserved + count) as u64 {
@@ -256,7 +257,7 @@ impl Dispatcher {
         ensures view { core_view self.new ≡ has_begun (core_view self.old) call }
         ensures moves { Moved (core_view self.old) (core_view self.new) (began_by call) }
     {
-        let number = self.next_call;
+        let number = self.next_call as u64;
         let count = call.left;
         let launched = call.launch(&mut self.queues, self.next_leg);
         self.calls.add(number, call);

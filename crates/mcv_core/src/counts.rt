@@ -15,8 +15,8 @@ pub struct Counts {
     pub queued: usize,
     /// Legs that are in the spool.
     pub spooled: usize,
-    /// Calls that run.
-    pub running: usize,
+    /// Calls that run: as many as have a number, at most.
+    pub running: u128,
 }
 
 impl Recording {
@@ -33,10 +33,10 @@ impl Recording {
     }
 
     /// How many calls have ended.
-    fn ending(self) -> usize
+    fn ending(self) -> u128
         ensures { result ≡ cond self.ended 1 0 }
     {
-        usize::from(self.ended)
+        u128::from(self.ended)
     }
 }
 

@@ -25,7 +25,8 @@ pub struct Dispatcher {
     /// The break that opened the era of `moment`.
     pub(crate) since: Option<Moment>,
     pub(crate) moment: Moment,
-    pub(crate) next_call: u64,
+    /// Wider than the number of a call, so that the last of these is given too.
+    pub(crate) next_call: u128,
     pub(crate) next_leg: u64,
     pub(crate) counts: Counts,
     /// How many entries the chapter's calls and spooled legs may write.

@@ -87,6 +87,7 @@ impl<H: KeyHash + Drop> Core<H> {
     /// What a call for this key asks for.
     fn asked(&self, alloc: Global, request: Arc<Request>, key: usize) -> Result<Asked, CoreFault>
         ensures asked { IfOk result (λ asked. IsAsked (core_view self.now.dispatcher).routes (H.chosen self.now.hash) (arc_value request) key asked.op asked.route (arc_value asked.rest) asked.choice) }
+        ensures request { IfOk result (λ asked. arc_value asked.request ≡ arc_value request) }
         ensures within { IfOk result (λ asked. HasIndexEach (core_view self.now.dispatcher).routes.symbols asked.choice) }
         ensures refused { IfErr result (IsUnbegun (core_view self.now.dispatcher) (H.chosen self.now.hash) (arc_value request) key) }
     {

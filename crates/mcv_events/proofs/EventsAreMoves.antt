@@ -4,6 +4,7 @@ use Rattle.std.specs.Prelude.{filter, is_some, slice_get}
 use Rattle.std.proofs.lemmas.Bool.{cases_Bool, cases_eq}
 use Rattle.mcv_base.specs.declared.reply.FixedReply.TheVariants.{Lost}
 use Rattle.mcv_base.specs.Operation.{is_delete}
+use Rattle.mcv_base.specs.declared.request.Request.{Request}
 use Rattle.mcv_base.specs.Reply.{ReplyValue, not_found, fixed_value}
 use Rattle.mcv_route.specs.declared.launch.Launch.{Launch}
 use Rattle.mcv_route.specs.Outcomes.{outcomes}
@@ -12,7 +13,7 @@ use Rattle.mcv_world.specs.World.{LegState, Performed, Spooled, Gone, Call, Leg,
 use Rattle.mcv_world.specs.Moves.{Move, Answered, WasSpooled, WasRefused, WasPerformed, EraBegan, Taken, counted_as, is_error_reply, is_one, has_no_outcome, is_awaited, can_be_answered, can_be_spooled, can_be_refused, can_be_taken, is_move, queue, new_call, began, recorded_by, recorded_if, recorded_for, with_leg_state, answered_state, with_taken, with_leg, with_call, changed, after}
 use Rattle.mcv_world.specs.LiveWorld.{has_ended, running, live_in, live_leg, live_of}
 use Rattle.mcv_events.specs.Entries.{IsLaidOut, is_launched}
-use Rattle.mcv_events.specs.Rows.{State, Sent, Held, InSpool, LegRow, CallRow, Rows, leg_state, leg_of, world_of, is_unanswered, IsCallRow, IsCore, queued_rows, recorded_rows, with_leg_row, CanRecord}
+use Rattle.mcv_events.specs.Rows.{State, Sent, Held, InSpool, LegRow, CallRow, Payload, Rows, leg_state, leg_of, world_of, is_unanswered, IsCallRow, IsCore, queued_rows, recorded_rows, with_leg_row, CanRecord}
 use Rattle.mcv_events.specs.Events.{recorded_rows_if, recorded_rows_for, in_state, new_row, began_rows, taken_rows, StatesAreNoMoves, AnsweredMoves, SpooledMoves, RefusedMoves, PerformedMoves, BeganMoves, TakenMoves, EraMoves, StatesKeepCores}
 use Rattle.mcv_world.proofs.Numbers.{same_some, none_when, no_some, put_same, put_other, put_cases, at_some}
 use Rattle.mcv_world.proofs.ForgetsSafely.{Alike, alike_live, alike_recorded_by}
@@ -333,15 +334,18 @@ taken_moves r w k c i there untaken replied =
 
 -- ---- a call begins
 
-module _ (r : RoutesValue) (w : Rows) (call : Call) (es : List Launch) (i : IsCore r w) (laid : IsLaidOut r call es) (untaken : call.taken ≡ false) (silent : call.recorded ≡ []) where
+module _ (r : RoutesValue) (w : Rows) (call : Call) (request : Option Request) (es : List Launch) (i : IsCore r w) (laid : IsLaidOut r call es) (untaken : call.taken ≡ false) (silent : call.recorded ≡ []) where
   abbrev due : Launch → Bool
   due = is_launched r call
 
+  abbrev load : Payload
+  load = record { rest = call.rest; request = request }
+
   abbrev new : CallRow
-  new = new_row r w call es
+  new = new_row r w call request es
 
   abbrev calls4 : ℕ → Option CallRow
-  calls4 = put w.calls w.next_call (Some (new_row r w call es))
+  calls4 = put w.calls w.next_call (Some (new_row r w call request es))
 
   launched_is : launched_by r call ≡ filter due es
   launched_is = launched_are_entries r call es laid
@@ -355,16 +359,16 @@ module _ (r : RoutesValue) (w : Rows) (call : Call) (es : List Launch) (i : IsCo
   began_calls : (m : ℕ) → option_map (λ d. d.call) (calls4 m) ≡ running r (put (world_of w).calls w.next_call (Some call) m)
   began_calls m = by_cases (nat_eq w.next_call m)
     where
-      by_cases : (b : Bool) → option_map (λ d. d.call) (cond b (Some (new_row r w call es)) (w.calls m)) ≡ running r (cond b (Some call) (option_map (λ d. d.call) (w.calls m)))
+      by_cases : (b : Bool) → option_map (λ d. d.call) (cond b (Some (new_row r w call request es)) (w.calls m)) ≡ running r (cond b (Some call) (option_map (λ d. d.call) (w.calls m)))
       by_cases true = ap (λ b. cond b None (Some call)) (sym runs)
       by_cases false = sym (running_live r w i m)
 
-  began_legs : (m : ℕ) → option_map leg_of (queued_rows due w.next_call call.rest w.next_leg 0 es w.legs m) ≡ live_leg (queue (world_of w).legs w.next_leg w.next_call call.rest (launched_by r call) m)
+  began_legs : (m : ℕ) → option_map leg_of (queued_rows due w.next_call load w.next_leg 0 es w.legs m) ≡ live_leg (queue (world_of w).legs w.next_leg w.next_call call.rest (launched_by r call) m)
   began_legs m =
-      let q = Numbering.rows_queue due w.next_call call.rest w.next_leg 0 es w.legs (world_of w).legs (λ j. refl) m in
-      sym (live_leg_of (queued_rows due w.next_call call.rest w.next_leg 0 es w.legs m)) ∙ ap live_leg (q ∙ ap (λ ls. queue (world_of w).legs w.next_leg w.next_call call.rest ls m) (sym launched_is))
+      let q = Numbering.rows_queue due w.next_call load w.next_leg 0 es w.legs (world_of w).legs (λ j. refl) m in
+      sym (live_leg_of (queued_rows due w.next_call load w.next_leg 0 es w.legs m)) ∙ ap live_leg (q ∙ ap (λ ls. queue (world_of w).legs w.next_leg w.next_call call.rest ls m) (sym launched_is))
 
-  began_live : world_of (began_rows r w call es) ≡ live_of r (began r (world_of w) call)
+  began_live : world_of (began_rows r w call request es) ≡ live_of r (began r (world_of w) call)
   began_live = λ j. record {
     calls = λ m. began_calls m j;
     legs = λ m. began_legs m j;
@@ -381,41 +385,41 @@ module _ (r : RoutesValue) (w : Rows) (call : Call) (es : List Launch) (i : IsCo
         | inr t ↦ ap is_some (Numbering.numbered_rest due w.next_leg 0 es (λ j. None) e e l at zero_plus t) ∙ sym t
       ]
 
-  began_core : IsCore r (began_rows r w call es)
+  began_core : IsCore r (began_rows r w call request es)
   began_core =
       record {
-        calls_below = λ j high. put_other w.calls w.next_call j (Some (new_row r w call es)) (λ q. omega (arith, high, q)) ∙ i.calls_below j (omega (arith, high));
-        legs_below = λ m high. Numbering.rows_above due w.next_call call.rest w.next_leg 0 es w.legs m high ∙ i.legs_below m (omega (arith, high));
-        call = λ j d f. elim (put_cases w.calls w.next_call j (Some (new_row r w call es)) d f) [
+        calls_below = λ j high. put_other w.calls w.next_call j (Some (new_row r w call request es)) (λ q. omega (arith, high, q)) ∙ i.calls_below j (omega (arith, high));
+        legs_below = λ m high. Numbering.rows_above due w.next_call load w.next_leg 0 es w.legs m high ∙ i.legs_below m (omega (arith, high));
+        call = λ j d f. elim (put_cases w.calls w.next_call j (Some (new_row r w call request es)) d f) [
           | inl q ↦ subst (IsCallRow r) (same_some q.1) (record { laid = record { all = laid.all; rising = laid.rising }; runs = runs; linked = began_linked; closed = λ p y g. no_some (sym (nothing p) ∙ g) })
           | inr q ↦ i.call j d q.1
         ];
-        own = λ m s j d f g t. elim (Numbering.rows_back due w.next_call call.rest w.next_leg 0 es w.legs m s f) [
+        own = λ m s j d f g t. elim (Numbering.rows_back due w.next_call load w.next_leg 0 es w.legs m s f) [
           | inl old ↦
-              elim (put_cases w.calls w.next_call j (Some (new_row r w call es)) d t) [
+              elim (put_cases w.calls w.next_call j (Some (new_row r w call request es)) d t) [
                 | inl q ↦ let low = i.owner m s j old g in absurd (below_itself w.next_call (subst (λ v. v < w.next_call) (sym q.0) low))
                 | inr q ↦ i.own m s j d old g q.1
               ]
           | inr fresh ↦
               let jk : w.next_call ≡ j = same_some (ap (λ v. v.call) fresh.is ∙ g) in
-              let same : new ≡ d = same_some (sym (put_same w.calls w.next_call (Some (new_row r w call es))) ∙ subst (λ v. calls4 v ≡ Some d) (sym jk) t) in
+              let same : new ≡ d = same_some (sym (put_same w.calls w.next_call (Some (new_row r w call request es))) ∙ subst (λ v. calls4 v ≡ Some d) (sym jk) t) in
               let index : fresh.index ≡ fresh.entry = let z = fresh.entry_is in omega (arith, z) in
               subst (λ v. (slice_get v.entries s.entry ≡ Some s.launch) × (v.legs s.entry ≡ Some m)) same
               (subst (λ v. (slice_get es v.entry ≡ Some v.launch) × (new.legs v.entry ≡ Some m)) fresh.is
               (subst (λ v. slice_get es v ≡ Some fresh.launch) index fresh.at, fresh.number (λ j. None)))
         ];
-        awaited = λ m s f o. elim (Numbering.rows_back due w.next_call call.rest w.next_leg 0 es w.legs m s f) [
+        awaited = λ m s f o. elim (Numbering.rows_back due w.next_call load w.next_leg 0 es w.legs m s f) [
           | inl old ↦
               let a = awaits_call w.calls s (i.awaited m s old o) in
               let low = i.owner m s a.0 old a.2 in
-              call_awaits calls4 s (a.0, a.1, a.2, put_other w.calls w.next_call a.0 (Some (new_row r w call es)) (λ q. omega (arith, low, q)) ∙ a.3, a.4)
-          | inr fresh ↦ call_awaits calls4 s (w.next_call, new_row r w call es, sym (ap (λ v. v.call) fresh.is), put_same w.calls w.next_call (Some (new_row r w call es)), nothing s.launch.position)
+              call_awaits calls4 s (a.0, a.1, a.2, put_other w.calls w.next_call a.0 (Some (new_row r w call request es)) (λ q. omega (arith, low, q)) ∙ a.3, a.4)
+          | inr fresh ↦ call_awaits calls4 s (w.next_call, new_row r w call request es, sym (ap (λ v. v.call) fresh.is), put_same w.calls w.next_call (Some (new_row r w call request es)), nothing s.launch.position)
         ];
-        counted = λ m s f o. elim (Numbering.rows_back due w.next_call call.rest w.next_leg 0 es w.legs m s f) [
+        counted = λ m s f o. elim (Numbering.rows_back due w.next_call load w.next_leg 0 es w.legs m s f) [
           | inl old ↦ i.counted m s old o
           | inr fresh ↦ absurd (true≢false (subst (λ v. is_unanswered v.state ≡ false) (sym fresh.is) o))
         ];
-        owner = λ m s j f g. elim (Numbering.rows_back due w.next_call call.rest w.next_leg 0 es w.legs m s f) [
+        owner = λ m s j f g. elim (Numbering.rows_back due w.next_call load w.next_leg 0 es w.legs m s f) [
           | inl old ↦ let low = i.owner m s j old g in omega (arith, low)
           | inr fresh ↦ let jk : w.next_call ≡ j = same_some (ap (λ v. v.call) fresh.is ∙ g) in omega (arith, jk)
         ];
@@ -425,6 +429,6 @@ module _ (r : RoutesValue) (w : Rows) (call : Call) (es : List Launch) (i : IsCo
       below_itself n h = omega (arith, h)
 
 pub began_moves : BeganMoves
-began_moves r w op route rest choice es i laid =
+began_moves r w op route rest choice request es i laid =
     let call = new_call (world_of w) op route rest choice in
-    record { is = refl; moves = began_live r w call es i laid refl refl; core = began_core r w call es i laid refl refl }
+    record { is = refl; moves = began_live r w call request es i laid refl refl; core = began_core r w call request es i laid refl refl }

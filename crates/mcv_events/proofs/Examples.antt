@@ -1,6 +1,8 @@
 -- Small rows. Each is what an event makes of the rows before it.
 use Rattle.std.proofs.Common.{◌≡◌, ℕ, true, false, [], ◌∷◌, Option, Some, None, option_map, refl}
 use Rattle.std.specs.Prelude.{option_and_then}
+use Rattle.mcv_base.specs.declared.request.Request.{Request}
+use Rattle.mcv_base.specs.declared.request.Request.TheVariants.{Version}
 use Rattle.mcv_base.specs.declared.operation.Mark.TheVariants.{Plain}
 use Rattle.mcv_base.specs.declared.operation.Op.TheVariants.{Delete}
 use Rattle.mcv_base.specs.Reply.{ReplyValue, deleted, not_found, fault, lost_line}
@@ -42,13 +44,16 @@ abbrev call : Call
 call = new_call (world_of (opened None [])) Delete 0 (97 ∷ []) (0 ∷ [])
 
 abbrev begun : Rows
-begun = began_rows routes (opened None []) call (to_server 0 5 ∷ to_server 1 7 ∷ [])
+begun = began_rows routes (opened None []) call (Some Version) (to_server 0 5 ∷ to_server 1 7 ∷ [])
 
 abbrev first : LegRow
-first = waiting 0 0 (97 ∷ []) (to_server 0 5)
+first = waiting 0 0 (record { rest = 97 ∷ []; request = Some Version }) (to_server 0 5)
 
 abbrev state_at : Rows → ℕ → Option State
 state_at w n = option_map (λ s. s.state) (w.legs n)
+
+abbrev request_at : Rows → ℕ → Option Request
+request_at w n = option_and_then (λ s. s.request) (w.legs n)
 
 abbrev world_state_at : Rows → ℕ → Option LegState
 world_state_at w n = option_map (λ s. s.state) ((world_of w).legs n)
@@ -100,6 +105,12 @@ nothing_more_is_reserved = refl
 both_legs_are_queued : queued_legs refused ≡ 2
 both_legs_are_queued = refl
 
+first_leg_has_taken_the_request_along : request_at begun 0 ≡ Some Version
+first_leg_has_taken_the_request_along = refl
+
+later_leg_has_taken_it_along_too : request_at refused 1 ≡ Some Version
+later_leg_has_taken_it_along_too = refl
+
 -- ---- or spooled
 
 abbrev spooled : Rows
@@ -131,7 +142,7 @@ replayed_record_is_performed : Runs routes (opened None ((5, 97 ∷ []) ∷ []))
 replayed_record_is_performed =
     let old = opened None ((5, 97 ∷ []) ∷ []) in
     moved old (with_leg_row old 0 None) (with_leg_row old 0 None) (WasPerformed 0) [] tt
-    (performed_moves routes old 0 (record { call = None; entry = 0; launch = record { position = []; server = record { 0 = 5 }; op = Delete; mark = Plain }; rest = 97 ∷ []; state = InSpool }) (opened_is_core routes None ((5, 97 ∷ []) ∷ [])) refl refl)
+    (performed_moves routes old 0 (record { call = None; entry = 0; launch = record { position = []; server = record { 0 = 5 }; op = Delete; mark = Plain }; rest = 97 ∷ []; request = None; state = InSpool }) (opened_is_core routes None ((5, 97 ∷ []) ∷ [])) refl refl)
     (done (with_leg_row old 0 None))
 
 -- ---- what is recorded

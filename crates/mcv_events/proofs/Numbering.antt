@@ -5,7 +5,7 @@ use Rattle.std.proofs.lemmas.Bool.{cases_Bool}
 use Rattle.mcv_route.specs.declared.launch.Launch.{Launch}
 use Rattle.mcv_world.specs.World.{Leg, put}
 use Rattle.mcv_world.specs.Moves.{queue, queued}
-use Rattle.mcv_events.specs.Rows.{LegRow, leg_of, waiting, numbered, queued_rows}
+use Rattle.mcv_events.specs.Rows.{LegRow, Payload, leg_of, waiting, numbered, queued_rows}
 use Rattle.mcv_world.proofs.Numbers.{same_some, no_some, put_same, put_other, put_cases}
 
 -- what holds of both branches at a number
@@ -45,7 +45,7 @@ module _ (due : Launch → Bool) where
       (λ t. numbered_due (suc n) (suc e) es (put f e (Some n)) i j l at (omega (arith, is)) d)
       (λ t. numbered_due n (suc e) es f i j l at (omega (arith, is)) d)
 
-  module _ (k : ℕ) (rest : List ℕ) where
+  module _ (k : ℕ) (load : Payload) where
     -- a leg that is new
     pub record IsNewRow (n e : ℕ) (es : List Launch) (m : ℕ) (s : LegRow) : Type 0 where
       pub index : ℕ
@@ -54,7 +54,7 @@ module _ (due : Launch → Bool) where
       pub at : slice_get es index ≡ Some launch
       pub entry_is : entry ≡ e + index
       pub is_due : due launch ≡ true
-      pub is : waiting k entry rest launch ≡ s
+      pub is : waiting k entry load launch ≡ s
       pub number : (f : ℕ → Option ℕ) → numbered due n e es f entry ≡ Some m
       pub below : m < n + length (filter due es)
 
@@ -63,16 +63,16 @@ module _ (due : Launch → Bool) where
         ap (λ b. cond b (numbered due (suc n) (suc e) es (put f e (Some n))) (numbered due n (suc e) es f) e) t
         ∙ numbered_before (suc n) (suc e) es (put f e (Some n)) e (omega arith) ∙ put_same f e (Some n)
 
-    pub rows_back : (n e : ℕ) (es : List Launch) (rows : ℕ → Option LegRow) (m : ℕ) (s : LegRow) → queued_rows due k rest n e es rows m ≡ Some s → (rows m ≡ Some s) ⊎ IsNewRow n e es m s
+    pub rows_back : (n e : ℕ) (es : List Launch) (rows : ℕ → Option LegRow) (m : ℕ) (s : LegRow) → queued_rows due k load n e es rows m ≡ Some s → (rows m ≡ Some s) ⊎ IsNewRow n e es m s
     rows_back n e [] rows m s h = inl h
     rows_back n e (l ∷ es) rows m s h =
         elim (cases_Bool (due l)) [
           | inl t ↦
-              let h1 : queued_rows due k rest (suc n) (suc e) es (put rows n (Some (waiting k e rest l))) m ≡ Some s =
-              sym (ap (λ b. cond b (queued_rows due k rest (suc n) (suc e) es (put rows n (Some (waiting k e rest l)))) (queued_rows due k rest n (suc e) es rows) m) t) ∙ h in
-              elim (rows_back (suc n) (suc e) es (put rows n (Some (waiting k e rest l))) m s h1) [
+              let h1 : queued_rows due k load (suc n) (suc e) es (put rows n (Some (waiting k e load l))) m ≡ Some s =
+              sym (ap (λ b. cond b (queued_rows due k load (suc n) (suc e) es (put rows n (Some (waiting k e load l)))) (queued_rows due k load n (suc e) es rows) m) t) ∙ h in
+              elim (rows_back (suc n) (suc e) es (put rows n (Some (waiting k e load l))) m s h1) [
                 | inl old ↦
-                    elim (put_cases rows n m (Some (waiting k e rest l)) s old) [
+                    elim (put_cases rows n m (Some (waiting k e load l)) s old) [
                       | inl q ↦ inr (record {
                         index = 0;
                         entry = e;
@@ -99,8 +99,8 @@ module _ (due : Launch → Bool) where
                 })
               ]
           | inr t ↦
-              let h1 : queued_rows due k rest n (suc e) es rows m ≡ Some s =
-              sym (ap (λ b. cond b (queued_rows due k rest (suc n) (suc e) es (put rows n (Some (waiting k e rest l)))) (queued_rows due k rest n (suc e) es rows) m) t) ∙ h in
+              let h1 : queued_rows due k load n (suc e) es rows m ≡ Some s =
+              sym (ap (λ b. cond b (queued_rows due k load (suc n) (suc e) es (put rows n (Some (waiting k e load l)))) (queued_rows due k load n (suc e) es rows) m) t) ∙ h in
               elim (rows_back n (suc e) es rows m s h1) [
                 | inl old ↦ inl old
                 | inr w ↦ inr (record {
@@ -117,38 +117,38 @@ module _ (due : Launch → Bool) where
               ]
         ]
 
-    pub rows_below : (n e : ℕ) (es : List Launch) (rows : ℕ → Option LegRow) (m : ℕ) → m < n → queued_rows due k rest n e es rows m ≡ rows m
+    pub rows_below : (n e : ℕ) (es : List Launch) (rows : ℕ → Option LegRow) (m : ℕ) → m < n → queued_rows due k load n e es rows m ≡ rows m
     rows_below n e [] rows m low = refl
     rows_below n e (l ∷ es) rows m low =
-        cond_at (λ v. v ≡ rows m) (due l) (queued_rows due k rest (suc n) (suc e) es (put rows n (Some (waiting k e rest l)))) (queued_rows due k rest n (suc e) es rows) m
-        (λ t. rows_below (suc n) (suc e) es (put rows n (Some (waiting k e rest l))) m (omega (arith, low)) ∙ put_other rows n m (Some (waiting k e rest l)) (λ q. omega (arith, low, q)))
+        cond_at (λ v. v ≡ rows m) (due l) (queued_rows due k load (suc n) (suc e) es (put rows n (Some (waiting k e load l)))) (queued_rows due k load n (suc e) es rows) m
+        (λ t. rows_below (suc n) (suc e) es (put rows n (Some (waiting k e load l))) m (omega (arith, low)) ∙ put_other rows n m (Some (waiting k e load l)) (λ q. omega (arith, low, q)))
         (λ t. rows_below n (suc e) es rows m low)
 
-    pub rows_above : (n e : ℕ) (es : List Launch) (rows : ℕ → Option LegRow) (m : ℕ) → n + length (filter due es) ≤ m → queued_rows due k rest n e es rows m ≡ rows m
+    pub rows_above : (n e : ℕ) (es : List Launch) (rows : ℕ → Option LegRow) (m : ℕ) → n + length (filter due es) ≤ m → queued_rows due k load n e es rows m ≡ rows m
     rows_above n e [] rows m high = refl
     rows_above n e (l ∷ es) rows m high =
-        cond_at (λ v. v ≡ rows m) (due l) (queued_rows due k rest (suc n) (suc e) es (put rows n (Some (waiting k e rest l)))) (queued_rows due k rest n (suc e) es rows) m
+        cond_at (λ v. v ≡ rows m) (due l) (queued_rows due k load (suc n) (suc e) es (put rows n (Some (waiting k e load l)))) (queued_rows due k load n (suc e) es rows) m
         (λ t.
         let above : n + suc (length (filter due es)) ≤ m = subst (λ b. n + length (cond b (l ∷ filter due es) (filter due es)) ≤ m) t high in
-        rows_above (suc n) (suc e) es (put rows n (Some (waiting k e rest l))) m (omega (arith, above)) ∙ put_other rows n m (Some (waiting k e rest l)) (λ q. omega (arith, above, q)))
+        rows_above (suc n) (suc e) es (put rows n (Some (waiting k e load l))) m (omega (arith, above)) ∙ put_other rows n m (Some (waiting k e load l)) (λ q. omega (arith, above, q)))
         (λ t. rows_above n (suc e) es rows m (subst (λ b. n + length (cond b (l ∷ filter due es) (filter due es)) ≤ m) t high))
 
     -- the legs of a world are queued in the same way
     pub rows_queue : (n e : ℕ) (es : List Launch) (rows : ℕ → Option LegRow) (legs : ℕ → Option Leg) → ((m : ℕ) → option_map leg_of (rows m) ≡ legs m)
-        → (m : ℕ) → option_map leg_of (queued_rows due k rest n e es rows m) ≡ queue legs n k rest (filter due es) m
+        → (m : ℕ) → option_map leg_of (queued_rows due k load n e es rows m) ≡ queue legs n k load.rest (filter due es) m
     rows_queue n e [] rows legs same m = same m
     rows_queue n e (l ∷ es) rows legs same m =
-        by_cases (due l) (rows_queue (suc n) (suc e) es (put rows n (Some (waiting k e rest l))) (put legs n (Some (queued k rest l))) put_alike m) (rows_queue n (suc e) es rows legs same m)
+        by_cases (due l) (rows_queue (suc n) (suc e) es (put rows n (Some (waiting k e load l))) (put legs n (Some (queued k load.rest l))) put_alike m) (rows_queue n (suc e) es rows legs same m)
       where
-        at_once : (b : Bool) (j : ℕ) → option_map leg_of (cond b (Some (waiting k e rest l)) (rows j)) ≡ cond b (Some (queued k rest l)) (legs j)
+        at_once : (b : Bool) (j : ℕ) → option_map leg_of (cond b (Some (waiting k e load l)) (rows j)) ≡ cond b (Some (queued k load.rest l)) (legs j)
         at_once true j = refl
         at_once false j = same j
 
-        put_alike : (j : ℕ) → option_map leg_of (put rows n (Some (waiting k e rest l)) j) ≡ put legs n (Some (queued k rest l)) j
+        put_alike : (j : ℕ) → option_map leg_of (put rows n (Some (waiting k e load l)) j) ≡ put legs n (Some (queued k load.rest l)) j
         put_alike j = at_once (nat_eq n j) j
 
-        by_cases : (b : Bool) → option_map leg_of (queued_rows due k rest (suc n) (suc e) es (put rows n (Some (waiting k e rest l))) m) ≡ queue (put legs n (Some (queued k rest l))) (suc n) k rest (filter due es) m
-            → option_map leg_of (queued_rows due k rest n (suc e) es rows m) ≡ queue legs n k rest (filter due es) m
-            → option_map leg_of (cond b (queued_rows due k rest (suc n) (suc e) es (put rows n (Some (waiting k e rest l)))) (queued_rows due k rest n (suc e) es rows) m) ≡ queue legs n k rest (cond b (l ∷ filter due es) (filter due es)) m
+        by_cases : (b : Bool) → option_map leg_of (queued_rows due k load (suc n) (suc e) es (put rows n (Some (waiting k e load l))) m) ≡ queue (put legs n (Some (queued k load.rest l))) (suc n) k load.rest (filter due es) m
+            → option_map leg_of (queued_rows due k load n (suc e) es rows m) ≡ queue legs n k load.rest (filter due es) m
+            → option_map leg_of (cond b (queued_rows due k load (suc n) (suc e) es (put rows n (Some (waiting k e load l)))) (queued_rows due k load n (suc e) es rows) m) ≡ queue legs n k load.rest (cond b (l ∷ filter due es) (filter due es)) m
         by_cases true x y = x
         by_cases false x y = y

@@ -18,7 +18,7 @@ use Rattle.mcv_world.specs.World.{Call, tree_of, situation_of, choice_of, histor
 use Rattle.mcv_world.specs.Moves.{is_one, has_no_outcome, queue, with_reply, launched_since, recorded_by}
 use Rattle.mcv_world.specs.LiveWorld.{has_ended, running, live_in, live_leg, live_of}
 use Rattle.mcv_events.specs.Entries.{is_launched, is_due, has_leg_at}
-use Rattle.mcv_events.specs.Rows.{awaits, State, Waiting, Sent, Held, InSpool, LegRow, CallRow, Rows, leg_state, leg_of, world_of, is_unanswered, IsCallRow, IsCore, queued_rows, recorded_row, recorded_rows, CanRecord}
+use Rattle.mcv_events.specs.Rows.{awaits, State, Waiting, Sent, Held, InSpool, LegRow, CallRow, Rows, leg_state, leg_of, world_of, is_unanswered, IsCallRow, IsCore, payload_of, queued_rows, recorded_row, recorded_rows, CanRecord}
 use Rattle.mcv_world.proofs.Numbers.{same_some, none_when, no_some, put_same, put_other, put_cases, at_some}
 use Rattle.mcv_world.proofs.CallsLegs.{all_at}
 use Rattle.mcv_events.proofs.Entries.{fresh_are_entries, not_true, cond_false}
@@ -161,10 +161,10 @@ module _ (r : RoutesValue) (w : Rows) (k : ℕ) (c : CallRow) (e : ℕ) (l : Lau
       by_cases true = ended (has_ended r call2)
       by_cases false = sym (running_live r w i m)
 
-  legs_are : (m : ℕ) → option_map leg_of (queued_rows due k c.call.rest w.next_leg 0 c.entries w.legs m) ≡ live_leg (queue (world_of w).legs w.next_leg k c.call.rest (launched_since r c.call l.position x) m)
+  legs_are : (m : ℕ) → option_map leg_of (queued_rows due k (payload_of c) w.next_leg 0 c.entries w.legs m) ≡ live_leg (queue (world_of w).legs w.next_leg k c.call.rest (launched_since r c.call l.position x) m)
   legs_are m =
-      let rows = queued_rows due k c.call.rest w.next_leg 0 c.entries w.legs m in
-      let q = Numbering.rows_queue due k c.call.rest w.next_leg 0 c.entries w.legs (world_of w).legs (λ j. refl) m in
+      let rows = queued_rows due k (payload_of c) w.next_leg 0 c.entries w.legs m in
+      let q = Numbering.rows_queue due k (payload_of c) w.next_leg 0 c.entries w.legs (world_of w).legs (λ j. refl) m in
       sym (live_leg_of rows) ∙ ap live_leg (q ∙ ap (λ ls. queue (world_of w).legs w.next_leg k c.call.rest ls m) (sym fresh_is))
 
   pub recording_is_recorded : world_of (recorded_rows r w k c l.position x) ≡ live_of r (recorded_by r (world_of w) k c.call l.position x)
@@ -267,14 +267,14 @@ module _ (r : RoutesValue) (w : Rows) (k : ℕ) (c : CallRow) (e : ℕ) (l : Lau
   recording_keeps_core =
       record {
         calls_below = λ j high. put_other w.calls k j (cond (has_ended r call2) None (Some c2)) (λ q. let low = k_below in omega (arith, low, high, q)) ∙ i.calls_below j high;
-        legs_below = λ m high. Numbering.rows_above due k c.call.rest w.next_leg 0 c.entries w.legs m high ∙ i.legs_below m (omega (arith, high));
+        legs_below = λ m high. Numbering.rows_above due k (payload_of c) w.next_leg 0 c.entries w.legs m high ∙ i.legs_below m (omega (arith, high));
         call = λ j d f. elim (put_cases w.calls k j (cond (has_ended r call2) None (Some c2)) d f) [
           | inl q ↦
               let s = some_row (has_ended r call2) c2 d q.1 in
               subst (IsCallRow r) s.1 (record { laid = record { all = row.laid.all; rising = row.laid.rising }; runs = s.0; linked = linked2; closed = closed2 })
           | inr q ↦ i.call j d q.1
         ];
-        own = λ m s j d f g t. elim (Numbering.rows_back due k c.call.rest w.next_leg 0 c.entries w.legs m s f) [
+        own = λ m s j d f g t. elim (Numbering.rows_back due k (payload_of c) w.next_leg 0 c.entries w.legs m s f) [
           | inl old ↦
               elim (put_cases w.calls k j (cond (has_ended r call2) None (Some c2)) d t) [
                 | inl q ↦
@@ -291,17 +291,17 @@ module _ (r : RoutesValue) (w : Rows) (k : ℕ) (c : CallRow) (e : ℕ) (l : Lau
               (subst (λ v. (slice_get c2.entries v.entry ≡ Some v.launch) × (c2.legs v.entry ≡ Some m)) new.is
               (subst (λ v. slice_get c.entries v ≡ Some new.launch) index new.at, new.number c.legs))
         ];
-        awaited = λ m s f opened. elim (Numbering.rows_back due k c.call.rest w.next_leg 0 c.entries w.legs m s f) [
+        awaited = λ m s f opened. elim (Numbering.rows_back due k (payload_of c) w.next_leg 0 c.entries w.legs m s f) [
           | inl old ↦ call_awaits calls2 s (still_awaited m s old opened)
           | inr new ↦
               let a = new_awaited new.launch new.is_due in
               call_awaits calls2 s (k, c2, sym (ap (λ v. v.call) new.is), a.0, subst (λ v. o2 v.launch.position ≡ None) new.is a.1)
         ];
-        counted = λ m s f opened. elim (Numbering.rows_back due k c.call.rest w.next_leg 0 c.entries w.legs m s f) [
+        counted = λ m s f opened. elim (Numbering.rows_back due k (payload_of c) w.next_leg 0 c.entries w.legs m s f) [
           | inl old ↦ i.counted m s old opened
           | inr new ↦ absurd (true≢false (subst (λ v. is_unanswered v.state ≡ false) (sym new.is) opened))
         ];
-        owner = λ m s j f g. elim (Numbering.rows_back due k c.call.rest w.next_leg 0 c.entries w.legs m s f) [
+        owner = λ m s j f g. elim (Numbering.rows_back due k (payload_of c) w.next_leg 0 c.entries w.legs m s f) [
           | inl old ↦ i.owner m s j old g
           | inr new ↦ subst (λ v. v < w.next_call) (same_some (ap (λ v. v.call) new.is ∙ g)) k_below
         ];

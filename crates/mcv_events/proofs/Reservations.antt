@@ -67,8 +67,8 @@ recording_spends r w k c e l x i h =
     omega (arith, t, n, s, m)
 
 pub beginning_reserves : BeginningReserves
-beginning_reserves r w call es =
-    let new = new_row r w call es in
+beginning_reserves r w call request es =
+    let new = new_row r w call request es in
     let t = sum_above (unlaunched_of r) w.calls w.next_call (Some new) w.next_call (omega arith) in
     let here : unlaunched_of r (put w.calls w.next_call (Some new) w.next_call) ≡ unlaunched r new = ap (unlaunched_of r) (put_same w.calls w.next_call (Some new)) in
     let n = both_counted (is_launched r call) es in

@@ -2,6 +2,7 @@
 use Rattle.std.specs.Prelude.{◌≡◌, ℕ, suc, ◌+◌, true, false, ◌&&◌, List, Option, Some, None, cond, filter, length, is_some}
 use Rattle.mcv_base.specs.declared.operation.Op.{Op}
 use Rattle.mcv_base.specs.declared.reply.FixedReply.TheVariants.{Lost}
+use Rattle.mcv_base.specs.declared.request.Request.{Request}
 use Rattle.mcv_base.specs.Reply.{ReplyValue, not_found, fixed_value}
 use Rattle.mcv_route.specs.declared.launch.Launch.{Launch}
 use Rattle.mcv_route.specs.Routes.{RoutesValue}
@@ -37,14 +38,14 @@ spooled_rows r w n s = recorded_rows_for r (with_leg_row w n (Some (in_state s I
 abbrev pub refused_rows : RoutesValue → Rows → LegRow → Rows
 refused_rows r w s = recorded_rows_for r w s (fixed_value Lost) s.call
 
-abbrev pub new_row : RoutesValue → Rows → Call → List Launch → CallRow
-new_row r w call es = record { call = call; entries = es; legs = numbered (is_launched r call) w.next_leg 0 es (λ e. None) }
+abbrev pub new_row : RoutesValue → Rows → Call → Option Request → List Launch → CallRow
+new_row r w call request es = record { call = call; request = request; entries = es; legs = numbered (is_launched r call) w.next_leg 0 es (λ e. None) }
 
--- a call with these entries is added, and what it launches waits
-abbrev pub began_rows : RoutesValue → Rows → Call → List Launch → Rows
-began_rows r w call es = record {
-  calls = put w.calls w.next_call (Some (new_row r w call es));
-  legs = queued_rows (is_launched r call) w.next_call call.rest w.next_leg 0 es w.legs;
+-- a call with these entries is added, for what its client asked, and what it launches waits
+abbrev pub began_rows : RoutesValue → Rows → Call → Option Request → List Launch → Rows
+began_rows r w call request es = record {
+  calls = put w.calls w.next_call (Some (new_row r w call request es));
+  legs = queued_rows (is_launched r call) w.next_call (record { rest = call.rest; request = request }) w.next_leg 0 es w.legs;
   since = w.since;
   next_call = suc w.next_call;
   next_leg = w.next_leg + length (filter (is_launched r call) es);
@@ -65,8 +66,8 @@ pub record Moves (r : RoutesValue) (old new : Rows) (m : Move) : Type 0 where
 
 abbrev pub BeganMoves : Type 0
 BeganMoves =
-    (r : RoutesValue) (w : Rows) (op : Op) (route : ℕ) (rest choice : List ℕ) (es : List Launch) → IsCore r w → IsLaidOut r (new_call (world_of w) op route rest choice) es
-    → Moves r w (began_rows r w (new_call (world_of w) op route rest choice) es) (Began op route rest choice)
+    (r : RoutesValue) (w : Rows) (op : Op) (route : ℕ) (rest choice : List ℕ) (request : Option Request) (es : List Launch) → IsCore r w → IsLaidOut r (new_call (world_of w) op route rest choice) es
+    → Moves r w (began_rows r w (new_call (world_of w) op route rest choice) request es) (Began op route rest choice)
 
 -- a Sent leg is answered; a counted delete leg only without an error
 abbrev pub AnsweredMoves : Type 0

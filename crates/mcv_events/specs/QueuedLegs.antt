@@ -1,5 +1,6 @@
 -- How many legs are queued (own).
 use Rattle.std.specs.Prelude.{◌≡◌, ◌<◌, ℕ, ◌+◌, List, Option, Some, None, length, filter}
+use Rattle.mcv_base.specs.declared.request.Request.{Request}
 use Rattle.mcv_base.specs.Reply.{ReplyValue}
 use Rattle.mcv_route.specs.declared.launch.Launch.{Launch}
 use Rattle.mcv_route.specs.Routes.{RoutesValue}
@@ -27,8 +28,8 @@ queued_legs w = sum_below count_of w.legs w.next_leg
 -- what a call launches is queued, when it begins
 abbrev pub BeginningQueues : Type 0
 BeginningQueues =
-    (r : RoutesValue) (w : Rows) (call : Call) (es : List Launch)
-    → queued_legs (began_rows r w call es) ≡ queued_legs w + length (filter (is_launched r call) es)
+    (r : RoutesValue) (w : Rows) (call : Call) (request : Option Request) (es : List Launch)
+    → queued_legs (began_rows r w call request es) ≡ queued_legs w + length (filter (is_launched r call) es)
 
 -- and later
 abbrev pub RecordingQueues : Type 0

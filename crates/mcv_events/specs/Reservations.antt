@@ -1,5 +1,6 @@
 -- How many legs the running calls may still launch: a call reserves them when it begins (own).
 use Rattle.std.specs.Prelude.{◌≡◌, ◌≤◌, ℕ, ◌+◌, not, List, Option, Some, None, length, filter}
+use Rattle.mcv_base.specs.declared.request.Request.{Request}
 use Rattle.mcv_base.specs.Reply.{ReplyValue}
 use Rattle.mcv_route.specs.declared.launch.Launch.{Launch}
 use Rattle.mcv_route.specs.Routes.{RoutesValue}
@@ -25,7 +26,7 @@ reserved r w = sum_below (unlaunched_of r) w.calls w.next_call
 -- a call that begins reserves its entries, and launches some of them
 abbrev pub BeginningReserves : Type 0
 BeginningReserves =
-    (r : RoutesValue) (w : Rows) (call : Call) (es : List Launch) → reserved r (began_rows r w call es) + length (filter (is_launched r call) es) ≡ reserved r w + length es
+    (r : RoutesValue) (w : Rows) (call : Call) (request : Option Request) (es : List Launch) → reserved r (began_rows r w call request es) + length (filter (is_launched r call) es) ≡ reserved r w + length es
 
 -- what a call launches later it had reserved; a call that ends gives the rest back
 abbrev pub RecordingSpends : Type 0

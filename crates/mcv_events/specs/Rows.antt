@@ -1,6 +1,7 @@
 -- The rows that a core keeps of a world: running calls with their entries, and legs that are queued or spooled (own).
 use Rattle.std.specs.Prelude.{◌≡◌, ◌≢◌, ◌<◌, ◌≤◌, ℕ, suc, ◌+◌, Bool, true, false, List, [], ◌∷◌, Option, Some, None, cond, length, filter, option_map, is_some, slice_get}
 use Rattle.mcv_base.specs.declared.reply.Outcome.{Outcome}
+use Rattle.mcv_base.specs.declared.request.Request.{Request}
 use Rattle.mcv_base.specs.Reply.{ReplyValue}
 use Rattle.mcv_route.specs.declared.launch.Launch.{Launch}
 use Rattle.mcv_route.specs.Outcomes.{outcomes}
@@ -26,10 +27,14 @@ pub record LegRow : Type 0 where
   pub entry : ℕ
   pub launch : Launch
   pub rest : List ℕ
+  -- what the client asked whose call launched it; None where the spool held it at the start
+  pub request : Option Request
   pub state : State
 
 pub record CallRow : Type 0 where
   pub call : Call
+  -- what its client asked
+  pub request : Option Request
   pub entries : List Launch
   -- of each entry the number of its leg, once it was launched
   pub legs : ℕ → Option ℕ
@@ -91,8 +96,16 @@ pub record IsCore (r : RoutesValue) (w : Rows) : Type 0 where
 
 -- ---- a call records a reply
 
-abbrev pub waiting : ℕ → ℕ → List ℕ → Launch → LegRow
-waiting k e rest l = record { call = Some k; entry = e; launch = l; rest = rest; state = Waiting }
+-- what the legs of a call take along
+pub record Payload : Type 0 where
+  pub rest : List ℕ
+  pub request : Option Request
+
+abbrev pub payload_of : CallRow → Payload
+payload_of c = record { rest = c.call.rest; request = c.request }
+
+abbrev pub waiting : ℕ → ℕ → Payload → Launch → LegRow
+waiting k e load l = record { call = Some k; entry = e; launch = l; rest = load.rest; request = load.request; state = Waiting }
 
 module _ (due : Launch → Bool) where
   -- the entries from e on that are due get the numbers of their legs, from n on
@@ -101,12 +114,12 @@ module _ (due : Launch → Bool) where
   numbered n e (l ∷ es) legs = cond (due l) (numbered (suc n) (suc e) es (put legs e (Some n))) (numbered n (suc e) es legs)
 
   -- and their legs wait
-  abbrev pub queued_rows : ℕ → List ℕ → ℕ → ℕ → List Launch → (ℕ → Option LegRow) → ℕ → Option LegRow
-  queued_rows k rest n e [] rows = rows
-  queued_rows k rest n e (l ∷ es) rows = cond (due l) (queued_rows k rest (suc n) (suc e) es (put rows n (Some (waiting k e rest l)))) (queued_rows k rest n (suc e) es rows)
+  abbrev pub queued_rows : ℕ → Payload → ℕ → ℕ → List Launch → (ℕ → Option LegRow) → ℕ → Option LegRow
+  queued_rows k load n e [] rows = rows
+  queued_rows k load n e (l ∷ es) rows = cond (due l) (queued_rows k load (suc n) (suc e) es (put rows n (Some (waiting k e load l)))) (queued_rows k load n (suc e) es rows)
 
 abbrev pub recorded_row : RoutesValue → Rows → CallRow → List ℕ → ReplyValue → CallRow
-recorded_row r w c p x = record { call = with_reply c.call p x; entries = c.entries; legs = numbered (is_due r c.call (with_reply c.call p x)) w.next_leg 0 c.entries c.legs }
+recorded_row r w c p x = record { call = with_reply c.call p x; request = c.request; entries = c.entries; legs = numbered (is_due r c.call (with_reply c.call p x)) w.next_leg 0 c.entries c.legs }
 
 -- the call records this reply of its leg at the position: what that launches waits, and the call goes if it has ended
 abbrev pub recorded_rows : RoutesValue → Rows → ℕ → CallRow → List ℕ → ReplyValue → Rows
@@ -114,7 +127,7 @@ recorded_rows r w k c p x =
     let due = is_due r c.call (with_reply c.call p x) in
     record w {
       calls = put w.calls k (cond (has_ended r (with_reply c.call p x)) None (Some (recorded_row r w c p x)));
-      legs = queued_rows due k c.call.rest w.next_leg 0 c.entries w.legs;
+      legs = queued_rows due k (payload_of c) w.next_leg 0 c.entries w.legs;
       next_leg = w.next_leg + length (filter due c.entries);
     }
 

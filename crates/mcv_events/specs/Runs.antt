@@ -20,7 +20,7 @@ OpenedRecord = ℕ × List ℕ
 
 -- its leg: a delete of no call, at the root, under no shadow
 abbrev pub spooled_row : OpenedRecord → LegRow
-spooled_row s = record { call = None; entry = 0; launch = record { position = []; server = record { 0 = s.0 }; op = Delete; mark = Plain }; rest = s.1; state = InSpool }
+spooled_row s = record { call = None; entry = 0; launch = record { position = []; server = record { 0 = s.0 }; op = Delete; mark = Plain }; rest = s.1; request = None; state = InSpool }
 
 -- no call, and the legs of these records, numbered from 0 in their order
 abbrev pub opened : Option ℕ → List OpenedRecord → Rows

@@ -193,10 +193,10 @@ module _ (v w : CoreView) (i : IsCore v.routes v.rows) (n : ℕ) (result : Resul
 
 -- ---- calls
 
-pub begin_writes : (v w : CoreView) (call : Call) → call.taken ≡ false → w ≡ begun v call → may_write w + 1 + v.entries ≤ may_write v + w.entries
+pub begin_writes : (v w : CoreView) (call : Call) (request : Option Request) → call.taken ≡ false → w ≡ begun v call request → may_write w + 1 + v.entries ≤ may_write v + w.entries
 unfolding may_write
-begin_writes v w call new is =
-    let o = beginning_writes v.routes v.rows call (legs_of_call v.routes call) new in
+begin_writes v w call request new is =
+    let o = beginning_writes v.routes v.rows call request (legs_of_call v.routes call) new in
     let e : w.entries ≡ v.entries + (2 + 3 * length (legs_of_call v.routes call)) = ap (λ z. z.entries) is in
     omega (arith, o, e, ap may_write is)
 
@@ -318,7 +318,7 @@ begun_goes d w chosen request key call m h =
     let new : Call = new_call (world_of v.rows) h.op h.route h.rest h.choice in
     let e : w.entries ≡ v.entries + (2 + 3 * length (legs_of_call v.routes new)) = ap (λ z. z.entries) h.begun.view in
     let fits = h.begun.history_fits in
-    let less = begin_writes v w new refl h.begun.view in
+    let less = begin_writes v w new (Some request) refl h.begun.view in
     record {
       leads = begun_leads v chosen request key (Ok call) m w h;
       chapter = ap (λ z. z.chapter) h.begun.view;

@@ -3,6 +3,7 @@ use Rattle.std.proofs.Common.{◌≡◌, ◌∙◌, cond, is_none, inl, inr, ℕ
 use Rattle.std.specs.Prelude.{filter, slice_get}
 use Rattle.std.proofs.lemmas.Bool.{cases_lt}
 use Rattle.mcv_base.specs.declared.reply.FixedReply.TheVariants.{Lost}
+use Rattle.mcv_base.specs.declared.request.Request.{Request}
 use Rattle.mcv_base.specs.Reply.{ReplyValue, fixed_value, outcome_of}
 use Rattle.mcv_route.specs.declared.launch.Launch.{Launch}
 use Rattle.mcv_route.specs.Outcomes.{Outcomes, is_same, outcomes}
@@ -18,7 +19,7 @@ use Rattle.mcv_world.proofs.Numbers.{at_some, no_some, none_when, put_same, same
 use Rattle.mcv_events.specs.Entries.{is_due, is_launched}
 use Rattle.mcv_events.specs.Events.{began_rows, new_row, recorded_rows_for, recorded_rows_if, refused_rows, taken_rows}
 use Rattle.mcv_events.specs.Reservations.{unlaunched}
-use Rattle.mcv_events.specs.Rows.{CallRow, IsCore, LegRow, Rows, awaits, leg_of, queued_rows, recorded_row, recorded_rows, waiting, with_leg_row}
+use Rattle.mcv_events.specs.Rows.{CallRow, IsCore, LegRow, Payload, Rows, awaits, leg_of, payload_of, queued_rows, recorded_row, recorded_rows, waiting, with_leg_row}
 use Rattle.mcv_events.specs.Sums.{sum_below}
 use Rattle.mcv_events.proofs.Recording.{awaits_call, launched_at}
 use Rattle.mcv_events.proofs.Sums.{sum_above, sum_put}
@@ -28,22 +29,22 @@ use Rattle.mcv_hub.proofs.Counts.{at_most_all, both_counted, divided, fewer_pass
 -- ---- legs
 
 -- each leg that is launched waits, and may be spooled and performed
-legs_queued : (due : Launch → Bool) (k : ℕ) (rest : List ℕ) (n e : ℕ) (es : List Launch) (legs : ℕ → Option LegRow)
-    → sum_below leg_may_write (queued_rows due k rest n e es legs) (n + length (filter due es)) ≡ sum_below leg_may_write legs n + 2 * length (filter due es)
-legs_queued due k rest n e [] legs = let same : n + 0 ≡ n = omega arith in let t = ap (sum_below leg_may_write legs) same in omega (arith, t)
-legs_queued due k rest n e (l ∷ es) legs =
-    by_cases (due l) (legs_queued due k rest (suc n) (suc e) es (put legs n (Some (waiting k e rest l)))) (legs_queued due k rest n (suc e) es legs)
+legs_queued : (due : Launch → Bool) (k : ℕ) (load : Payload) (n e : ℕ) (es : List Launch) (legs : ℕ → Option LegRow)
+    → sum_below leg_may_write (queued_rows due k load n e es legs) (n + length (filter due es)) ≡ sum_below leg_may_write legs n + 2 * length (filter due es)
+legs_queued due k load n e [] legs = let same : n + 0 ≡ n = omega arith in let t = ap (sum_below leg_may_write legs) same in omega (arith, t)
+legs_queued due k load n e (l ∷ es) legs =
+    by_cases (due l) (legs_queued due k load (suc n) (suc e) es (put legs n (Some (waiting k e load l)))) (legs_queued due k load n (suc e) es legs)
   where
     by_cases : (b : Bool)
-        → sum_below leg_may_write (queued_rows due k rest (suc n) (suc e) es (put legs n (Some (waiting k e rest l)))) (suc n + length (filter due es)) ≡ sum_below leg_may_write (put legs n (Some (waiting k e rest l))) (suc n) + 2 * length (filter due es)
-        → sum_below leg_may_write (queued_rows due k rest n (suc e) es legs) (n + length (filter due es)) ≡ sum_below leg_may_write legs n + 2 * length (filter due es)
-        → sum_below leg_may_write (cond b (queued_rows due k rest (suc n) (suc e) es (put legs n (Some (waiting k e rest l)))) (queued_rows due k rest n (suc e) es legs)) (n + length (cond b (l ∷ filter due es) (filter due es)))
+        → sum_below leg_may_write (queued_rows due k load (suc n) (suc e) es (put legs n (Some (waiting k e load l)))) (suc n + length (filter due es)) ≡ sum_below leg_may_write (put legs n (Some (waiting k e load l))) (suc n) + 2 * length (filter due es)
+        → sum_below leg_may_write (queued_rows due k load n (suc e) es legs) (n + length (filter due es)) ≡ sum_below leg_may_write legs n + 2 * length (filter due es)
+        → sum_below leg_may_write (cond b (queued_rows due k load (suc n) (suc e) es (put legs n (Some (waiting k e load l)))) (queued_rows due k load n (suc e) es legs)) (n + length (cond b (l ∷ filter due es) (filter due es)))
         ≡ sum_below leg_may_write legs n + 2 * length (cond b (l ∷ filter due es) (filter due es))
     by_cases true x y =
         let place : n + suc (length (filter due es)) ≡ suc n + length (filter due es) = omega arith in
-        let here : leg_may_write (put legs n (Some (waiting k e rest l)) n) ≡ 2 = ap leg_may_write (put_same legs n (Some (waiting k e rest l))) in
-        let below = sum_above leg_may_write legs n (Some (waiting k e rest l)) n (omega arith) in
-        let moved = ap (sum_below leg_may_write (queued_rows due k rest (suc n) (suc e) es (put legs n (Some (waiting k e rest l))))) place in
+        let here : leg_may_write (put legs n (Some (waiting k e load l)) n) ≡ 2 = ap leg_may_write (put_same legs n (Some (waiting k e load l))) in
+        let below = sum_above leg_may_write legs n (Some (waiting k e load l)) n (omega arith) in
+        let moved = ap (sum_below leg_may_write (queued_rows due k load (suc n) (suc e) es (put legs n (Some (waiting k e load l))))) place in
         omega (arith, x, here, below, moved)
     by_cases false x y = y
 
@@ -95,7 +96,7 @@ module _ (r : RoutesValue) (w : Rows) (k : ℕ) (c : CallRow) (p : List ℕ) (x 
   spends d fewer =
       let row2 = recorded_row r w c p x in
       let after = cond (has_ended r call2) None (Some row2) in
-      let legs = legs_queued due k c.call.rest w.next_leg 0 c.entries w.legs in
+      let legs = legs_queued due k (payload_of c) w.next_leg 0 c.entries w.legs in
       let calls = sum_put (call_may_write r) w.calls k after w.next_call low in
       let was : call_may_write r (w.calls k) ≡ call_may_write r (Some c) = ap (call_may_write r) there in
       let later = divided (is_launched r c.call) (is_launched r call2) stays c.entries in
@@ -148,10 +149,10 @@ refusing_writes r w n s i at waits =
 
 -- ---- calls begin, and their replies are taken
 
-pub beginning_writes : (r : RoutesValue) (w : Rows) (call : Call) (es : List Launch) → call.taken ≡ false → rows_may_write r (began_rows r w call es) ≤ rows_may_write r w + (1 + 3 * length es)
-beginning_writes r w call es new =
-    let row = new_row r w call es in
-    let legs = legs_queued (is_launched r call) w.next_call call.rest w.next_leg 0 es w.legs in
+pub beginning_writes : (r : RoutesValue) (w : Rows) (call : Call) (request : Option Request) (es : List Launch) → call.taken ≡ false → rows_may_write r (began_rows r w call request es) ≤ rows_may_write r w + (1 + 3 * length es)
+beginning_writes r w call request es new =
+    let row = new_row r w call request es in
+    let legs = legs_queued (is_launched r call) w.next_call (record { rest = call.rest; request = request }) w.next_leg 0 es w.legs in
     let calls = sum_above (call_may_write r) w.calls w.next_call (Some row) w.next_call (omega arith) in
     let here : call_may_write r (put w.calls w.next_call (Some row) w.next_call) ≡ call_may_write r (Some row) = ap (call_may_write r) (put_same w.calls w.next_call (Some row)) in
     let unheard = at_most_all (is_open call) es in

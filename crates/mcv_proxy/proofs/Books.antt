@@ -14,7 +14,7 @@ use Rattle.mcv_hub.specs.Events.{IsHubEvent, taken_part}
 use Rattle.mcv_hub.specs.History.{begun_by, taken_by}
 use Rattle.mcv_hub.specs.State.{HistoryKeepsDeletes, HubView, IsOf}
 use Rattle.mcv_hub.specs.declared.seat.TakenReply.{TakenReply}
-use Rattle.mcv_proxy.specs.Desk.{AreBegun, AreFor, IsUnanswered, IsUnbegun, WasBegun, WasMissing, WasRefused, none, more}
+use Rattle.mcv_proxy.specs.Desk.{AreBegun, AreFor, IsUnanswered, WasBegun, WasMissing, WasRefused, none, more}
 use Rattle.mcv_text.specs.Request.{RequestValue, request_value}
 
 -- ---- a call begins

@@ -2,6 +2,8 @@
 
 ghost use Rattle.std.specs.Prelude.{◌≡◌, ◌↔◌, ◌+◌, ◌<◌, ◌≤◌, [], fold, length, map, nat_le, option_map, vec_len, vec_capacity, true, IfErr, IfNone, IfOk, IfSome, OnErr, OnOk};
 ghost use Rattle.std.specs.Arc.{arc_value};
+ghost use Rattle.std.specs.Coded.{Coded-set};
+ghost use Rattle.mcv_route.specs.Codes.{routes_code};
 ghost use Rattle.std.specs.List.{All, filter};
 ghost use Rattle.mcv_text.specs.Request.{request_value};
 ghost use Rattle.mcv_session.specs.Desk.{keys_of};
@@ -57,6 +59,9 @@ struct Progress {
 pub struct HubDesk<'a, B: HubLedger, T: Ledger, L: Link, W: Watch, R: Wait + Clock> {
     caller: Caller<'a, B, T, L, W, R>,
     kept: Kept,
+    /// The hub's. They aren't asked of the hub at each request: what lies beside its lock is slow to read while others take it.
+    routes: &'a Routes,
+    ghost its: { routes.now ≡ B.opened.routes } by { Coded-set routes_code routes.now B.opened.routes },
 }
 
 /// The receipts of replies that were taken, without those of earlier chapters than that of the last one.
@@ -580,6 +585,7 @@ impl<'a, B: HubLedger, T: Ledger, L: Link, W: Watch, R: Wait + Clock> HubDesk<'a
                 errands: Errands::new(alloc, hub, turn_from),
             },
             kept: Kept::new(alloc),
+            routes: hub.routes(),
         }
     }
 
@@ -588,7 +594,7 @@ impl<'a, B: HubLedger, T: Ledger, L: Link, W: Watch, R: Wait + Clock> HubDesk<'a
         ensures seat { result.0 ≡ self.entry.caller.seat }
         ensures receipts { result.1 ≡ self.entry.kept.receipts }
     {
-        let HubDesk { caller, kept } = self;
+        let HubDesk { caller, kept, .. } = self;
         (caller.into_seat(), kept.receipts)
     }
 
@@ -617,8 +623,7 @@ impl<'a, B: HubLedger, T: Ledger, L: Link, W: Watch, R: Wait + Clock> HubDesk<'a
         ensures err { IfErr result (IsUnanswered B.opened (request_value (arc_value request.now)) calls.new.items taken.new.items) }
     {
         let count = key_count(request);
-        let hub = self.caller.hub;
-        let routes = hub.routes();
+        let routes = self.routes;
         let begun = self.caller.begin_all(request, count, calls);
         let outcome = self.caller.take_all(calls.as_slice(), taken);
         self.kept.keep_all(taken.as_slice());

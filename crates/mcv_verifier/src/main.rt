@@ -1,13 +1,16 @@
-//! The program `mcv` without its proxy, for who only judges and mends configurations: `legs`, `check` and `mend` as in the
-//! whole program. `run` is a bad command line here.
+//! The program `mcv` without its proxy, for who only judges and mends configurations: `legs`, `check`, `mend` and `spool` as
+//! in the whole program. `run` is a bad command line here.
 #![tactic(auto)]
 
 use mcv_check::Accepted;
-use mcv_command::{Ending, Proxy, Stop, SystemFiles, exit_status, given_words, run_words};
-use mcv_input::RunFault;
-use mcv_words::RunOptions;
+use mcv_command::{
+    Ending, Proxy, Stop, SystemFiles, exit_status, given_words, reads_configuration, run_words,
+    second_line,
+};
+use mcv_input::{RunFault, read_at_most};
+use mcv_words::{RunOptions, read_words};
 use std::alloc::Global;
-use std::fs::Files;
+use std::fs::{File, Files};
 use std::io;
 use std::io::Write;
 use std::process::ExitCode;
@@ -15,11 +18,27 @@ use std::rt::Env;
 use std::sync::Arc;
 
 fn main(rt: HostRuntime) -> ExitCode {
-    let ended = run(&rt);
-    if let Err(stop) = &ended {
+    let end = match run(&rt) {
+        Ok(end) => end,
+        Err(stop) => End {
+            ended: Err(stop),
+            more: None,
+        },
+    };
+    if let Err(stop) = &end.ended {
         let _ = eprintln!(rt; "{stop}");
     }
-    ExitCode::from(exit_status(&ended))
+    if let Some(more) = &end.more {
+        let _ = eprintln!(rt; "{more}");
+    }
+    ExitCode::from(exit_status(&end.ended))
+}
+
+/// How the program ended, and what it says more of a fault.
+#[derive(Drop)]
+struct End {
+    ended: Result<Ending, Stop>,
+    more: Option<String>,
 }
 
 /// It serves nothing.
@@ -40,19 +59,50 @@ impl Proxy for NoProxy {
     }
 }
 
-fn run<R: Env + AllocGlobal + Input + Print + Files>(rt: &R) -> Result<Ending, Stop> {
+/// The most bytes that are read of a configuration: one more than it may have.
+const READ_LIMIT: u64 = 16_777_217;
+
+fn run<R: Env + AllocGlobal + Input + Print + Files<File = File>>(rt: &R) -> Result<End, Stop> {
     let alloc = rt.alloc();
     let words = given_words(rt)?;
     let texts: Vec<&str> = words.iter().map(|word| word.as_str()).collect(alloc)?;
+    let texts = texts.as_slice();
     if texts.get(1).copied() == Some("run") {
         return Err(Stop::BadLine);
     }
-    run_words(
+    let is_whole = match read_words(alloc, texts) {
+        Ok(job) => reads_configuration(&job),
+        Err(_) => false,
+    };
+    if !is_whole {
+        let files = SystemFiles { system: rt };
+        let ended = run_words(
+            alloc,
+            texts,
+            &files,
+            &NoProxy,
+            &mut rt.reader(),
+            &mut io::writer(rt),
+        );
+        return Ok(End { ended, more: None });
+    }
+    let input = read_at_most(alloc, &mut rt.reader(), READ_LIMIT)?;
+    Ok(judge(rt, texts, input.as_slice()))
+}
+
+/// Does what the words ask for of a configuration, and says more of a fault in it.
+fn judge<R: AllocGlobal + Print + Files<File = File>>(rt: &R, words: &[&str], input: &[u8]) -> End {
+    let alloc = rt.alloc();
+    let mut rest = input;
+    let files = SystemFiles { system: rt };
+    let ended = run_words(
         alloc,
-        texts.as_slice(),
-        &SystemFiles { system: rt },
+        words,
+        &files,
         &NoProxy,
-        &mut rt.reader(),
+        &mut rest,
         &mut io::writer(rt),
-    )
+    );
+    let more = second_line(alloc, input, &ended).unwrap_or(None);
+    End { ended, more }
 }

@@ -196,3 +196,29 @@ no_server_timeout = refl
 too_long_a_client_timeout : faults (run_line ++ codes "--client-timeout" ∷ codes "3600001" ∷ []) ≡ ValueValidation ∷ []
 unfolding clap_on_literals
 too_long_a_client_timeout = refl
+
+abbrev spool_line : List Text
+spool_line = codes "mcv" ∷ codes "spool" ∷ codes "f" ∷ []
+
+spool : faults spool_line ≡ []
+unfolding clap_on_literals
+spool = refl
+
+abbrev spool_of : Option (Text × List Row) → Option (Option Text × Option Text)
+spool_of = option_map (λ p. (first_of (codes "file") p.1, one_of (codes "all") p.1))
+
+spool_named : spool_of (named spool_line) ≡ Some (Some (codes "f"), Some (codes "false"))
+unfolding clap_on_literals
+spool_named = refl
+
+all_named : spool_of (named (codes "mcv" ∷ codes "spool" ∷ codes "--all" ∷ codes "f" ∷ [])) ≡ Some (Some (codes "f"), Some (codes "true"))
+unfolding clap_on_literals
+all_named = refl
+
+no_file : faults (codes "mcv" ∷ codes "spool" ∷ codes "--all" ∷ []) ≡ MissingRequiredArgument ∷ []
+unfolding clap_on_literals
+no_file = refl
+
+two_files : faults (spool_line ++ codes "g" ∷ []) ≡ UnknownArgument ∷ []
+unfolding clap_on_literals
+two_files = refl

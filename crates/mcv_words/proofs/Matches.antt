@@ -13,9 +13,9 @@ use Rattle.clap.specs.declared.parser.matches.ArgMatches.TheViews.{out-ArgMatche
 use Rattle.clap.specs.declared.parser.matches.SubCommand.{SubCommand}
 use Rattle.clap.specs.Simple.{subcommand_rows}
 use Rattle.mcv_words.specs.Ranges.{proxy_limit, session_limit, timeout_limit, window_limit}
-use Rattle.mcv_words.specs.Words.{faults, named, CanRun, IsCheckOf, IsFaultOfKind, IsGivenIn, IsJobOf, IsLineFault, IsNumberOf, IsRunOf, MayBeGivenIn}
+use Rattle.mcv_words.specs.Words.{faults, named, CanRun, IsCheckOf, IsFaultOfKind, IsGivenIn, IsJobOf, IsLineFault, IsNumberOf, IsRunOf, IsSpoolOf, MayBeGivenIn}
 use Rattle.mcv_words.specs.declared.words.Job.{Job}
-use Rattle.mcv_words.specs.declared.words.Job.TheVariants.{Legs, Check, Mend, Run}
+use Rattle.mcv_words.specs.declared.words.Job.TheVariants.{Legs, Check, Mend, Run, Spool}
 use Rattle.mcv_words.proofs.OptionValues.{HasAll, HasNumber, MayHaveNumber}
 use Rattle.mcv_words.specs.declared.words.LineFault.{LineFault}
 use Rattle.mcv_words.specs.declared.words.LineFault.TheVariants.{BadLine, Memory, Help, Version}
@@ -130,6 +130,7 @@ check_asked words rows (Legs at) none check of = absurd of
 check_asked words rows (Check cert window) none check of = (none, rows, check, of)
 check_asked words rows Mend none check of = absurd of
 check_asked words rows (Run options) none check of = absurd of
+check_asked words rows (Spool options) none check of = absurd of
 
 -- the job of `run` that has the values of the words is what they ask for
 pub run_asked : (words : List Text) (rows : List Row) (job : Job) → faults words ≡ [] → named words ≡ Some (codes "run", rows) → IsRunOf rows job → IsJobOf words job
@@ -137,3 +138,12 @@ run_asked words rows (Legs at) none run of = absurd of
 run_asked words rows (Check cert window) none run of = absurd of
 run_asked words rows Mend none run of = absurd of
 run_asked words rows (Run options) none run of = (none, rows, run, of)
+run_asked words rows (Spool options) none run of = absurd of
+
+-- the job of `spool` that has the values of the words is what they ask for
+pub spool_asked : (words : List Text) (rows : List Row) (job : Job) → faults words ≡ [] → named words ≡ Some (codes "spool", rows) → IsSpoolOf rows job → IsJobOf words job
+spool_asked words rows (Legs at) none spool of = absurd of
+spool_asked words rows (Check cert window) none spool of = absurd of
+spool_asked words rows Mend none spool of = absurd of
+spool_asked words rows (Run options) none spool of = absurd of
+spool_asked words rows (Spool options) none spool of = (none, rows, spool, of)

@@ -1,10 +1,11 @@
--- The values that words with which clap finds no fault give the options of `check`, `legs` and `run`: each row has one that the parser of its
+-- The values that words with which clap finds no fault give the options of `check`, `legs`, `run` and `spool`: each row has one that the parser of its
 -- option takes, an option with a default has a row, and so has one that is wanted. clap's rules are followed from word to word; nothing
 -- of the code is in it.
-use Rattle.std.proofs.Common.{◌≡◌, ◌∙◌, ◌⊎◌, inl, inr, ℕ, zero, suc, Bool, cond, not, ◌&&◌, ◌||◌, true, false, List, [], ◌∷◌, ◌++◌, drop, length, Option, Some, None, ap, codes, fold, is_some, refl, subst, sym, true≢false}
+use Rattle.std.proofs.Common.{◌≡◌, ◌∙◌, ◌⊎◌, inl, inr, ℕ, zero, suc, Bool, cond, not, ◌&&◌, ◌||◌, ◌==◌, arith, true, false, List, [], ◌∷◌, ◌++◌, drop, length, Option, Some, None, ap, codes, fold, is_some, refl, subst, sym, true≢false}
 use Rattle.std.specs.Option.{option_map_or}
 use Rattle.std.specs.Str.{bytes_eq, chars}
 use Rattle.std.specs.Prelude.{IfSome, ⊤, slice_get, encode_utf8, find}
+use Rattle.std.proofs.lemmas.Bool.{ne_eqb}
 use Rattle.std.proofs.lemmas.Slice.Eq.{bytes_eq-Decides}
 use Rattle.clap.specs.Words.{Kinds, Row, Rule, Shape, Text, built, first_of, one_of}
 use Rattle.clap.specs.Facts.{parser_of_value}
@@ -16,14 +17,14 @@ use Rattle.clap.specs.Simple.{built_leaf, entered, filled, help_rule, inherited,
 use Rattle.clap.specs.Walk.{Held, Outcome, Step, Waiting, Walk, done, waits, plain, refused, idle, option, positional, next, trailing, subcommand, value}
 use Rattle.clap.specs.Walk.{after_flag, after_step, arg_by_id, arg_by_index, arg_by_long, arg_by_short, at_row, attached_value, bundle, bundle_met, bundle_step, finished, flag_met, has_row, is_pending, long_met, long_or_other, more_values, nothing_held, option_met, option_word, plain_word, positional_held, reacted, settled, settled_rows, short_met, short_or_plain, takes_several, takes_values, to_positional, used, used_by_id, walk, walk_from, walked, walked_from, with_default, with_values, without, word_met, rows_after}
 use Rattle.clap.specs.Faults.{bundle_fault, bundle_step_fault, check_fault, defaults_fault, entered_fault, flag_word_fault, flags_fault, level_fault, long_fault, option_fault, positional_fault, react_fault, repeat_fault, set_fault, settle_fault, short_fault, step_fault, turn_fault, use_fault, values_fault, walk_fault, word_fault}
-use Rattle.clap.specs.declared.error.kind.ErrorKind.TheVariants.{DisplayHelp, InvalidValue, MissingRequiredArgument, TooManyValues, ValueValidation}
+use Rattle.clap.specs.declared.error.kind.ErrorKind.TheVariants.{DisplayHelp, InvalidValue, MissingRequiredArgument, TooManyValues, ValueValidation, WrongNumberOfValues}
 use Rattle.clap.specs.declared.builder.value_parser.ValueParser.{ValueParser}
 use Rattle.clap.specs.declared.builder.value_parser.ValueParser.TheVariants as parsers
 use Rattle.clap.specs.declared.builder.value_parser.Reading.TheVariants.{AsWritten}
 use Rattle.clap.specs.declared.parser.matches.ValueSource.{ValueSource}
 use Rattle.clap.specs.declared.parser.matches.ValueSource.TheVariants.{CommandLine, DefaultValue}
 use Rattle.mcv_words.specs.Ranges.{proxy_limit, session_limit, timeout_limit, window_limit}
-use Rattle.mcv_words.specs.Words.{at_rule, cert_rule, check_app, client_timeout_rule, faults, legs_app, listen_rule, mcv_app, named, proxies_rule, run_app, server_timeout_rule, sessions_rule, spool_rule, window_rule}
+use Rattle.mcv_words.specs.Words.{at_rule, cert_rule, check_app, client_timeout_rule, faults, file_rule, flag_rule, legs_app, listen_rule, mcv_app, named, proxies_rule, run_app, server_timeout_rule, sessions_rule, spool_app, spool_rule, window_rule}
 use Rattle.mcv_words.proofs.CommandIsNamed.{StopsAtCommand, none_below, none_of, some_kind, stop_of, stops_at_command}
 
 -- ---- rows
@@ -541,6 +542,49 @@ run_given words none =
       client_timeout = may_have_value run.rules (codes "client-timeout") all last.0;
     })
 
+-- ---- `spool`
+
+abbrev spool : Shape
+spool = built_leaf (inherited (built mcv_app).top spool_app.top)
+
+file_tame : IsTame spool (with_index 1 (filled file_rule))
+file_tame [] rows none good = absurd (some_kind InvalidValue [] none)
+file_tame (v ∷ vs) rows none good = written spool.rules (codes "file") v vs rows refl good
+
+no_value_for_flag : (n : ℕ) → range_kinds 0 0 (suc n) ≡ [] → ⊥
+no_value_for_flag n none =
+    let apart : (0 == suc n) ≡ false = ne_eqb 0 (suc n) (λ same. omega arith) in
+    some_kind WrongNumberOfValues [] (rw apart at none)
+
+all_tame : IsTame spool (with_index 2 (filled (flag_rule (codes "all"))))
+all_tame [] rows none good = written spool.rules (codes "all") (codes "true") [] rows refl good
+all_tame (v ∷ vs) rows none good = absurd (no_value_for_flag (length vs) (none_of (range_kinds 0 0 (suc (length vs))) (set_fault false (with_index 2 (filled (flag_rule (codes "all")))) (v ∷ vs) rows) none).0)
+
+spool_help : IsTame spool (with_index 2 (filled help_rule))
+spool_help values rows none good = absurd (no_help values rows none)
+
+-- the file of `spool` is given
+abbrev pub HasFile : List Row → Type 0
+HasFile rows = (text : Text) × (first_of (codes "file") rows ≡ Some text)
+
+one_given : (a : Bool) → cond (not a || false) (MissingRequiredArgument ∷ []) [] ≡ [] → a ≡ true
+one_given true e = refl
+one_given false e = absurd (some_kind MissingRequiredArgument [] e)
+
+spool_given : (words : List Text) → level_fault spool [] nothing_held words false [] ≡ [] → HasFile (rows_after spool.rules [] words)
+spool_given words none =
+    let tame : AreTame spool spool.rules = (file_tame, (all_tame, (spool_help, tt))) in
+    let start : List Row = (settled spool.rules (walk spool.rules [] nothing_held words).held).rows in
+    let named : List Row = with_default start (with_index 1 (filled file_rule)) in
+    let after : List Row = with_default named (with_index 2 (filled (flag_rule (codes "all")))) in
+    let same : named ≡ start = unchanged (has_row (codes "file") start) start in
+    let leaf = leaf_good spool tame words none in
+    let last = defaulted spool.rules (codes "all") (codes "false") named refl refl (subst (λ (rows : List Row). AreGood spool.rules rows) (sym same) leaf.0) in
+    let ended : rows_after spool.rules [] words ≡ after = unchanged (has_row (codes "help") after) after in
+    let given = one_given (is_given (codes "file") after) (subst (λ (rows : List Row). check_fault spool rows false ≡ []) ended leaf.1) in
+    let file = found_value spool.rules (codes "file") after (given_has (codes "file") after given) last.0 in
+    subst HasFile (sym ended) (file.0, file.1)
+
 -- ---- all words
 
 abbrev entered_with : Text → List Row → Option (Text × List Row)
@@ -565,7 +609,8 @@ at_legs : (stop : Option (Text × List Text)) (rows : List Row) → StopsAtComma
 at_legs None rows stops at none = absurd (cc)
 at_legs (Some p) rows (inl other) at none = absurd (name_apart (codes "check") (codes "legs") _ rows refl refl (at_name (codes "legs") (codes "check") p rows other at))
 at_legs (Some p) rows (inr (inr (inl other))) at none = absurd (name_apart (codes "mend") (codes "legs") _ rows refl refl (at_name (codes "legs") (codes "mend") p rows other at))
-at_legs (Some p) rows (inr (inr (inr other))) at none = absurd (name_apart (codes "run") (codes "legs") _ rows refl refl (at_name (codes "legs") (codes "run") p rows other at))
+at_legs (Some p) rows (inr (inr (inr (inl other)))) at none = absurd (name_apart (codes "run") (codes "legs") _ rows refl refl (at_name (codes "legs") (codes "run") p rows other at))
+at_legs (Some p) rows (inr (inr (inr (inr other)))) at none = absurd (name_apart (codes "spool") (codes "legs") _ rows refl refl (at_name (codes "legs") (codes "spool") p rows other at))
 at_legs (Some p) rows (inr (inl is)) at none =
     let same : rows_after legs.rules [] p.1 ≡ rows = rows_there (codes "legs") (rows_after legs.rules [] p.1) rows (at_name (codes "legs") (codes "legs") p rows is at) in
     subst HasAt same (legs_given p.1 (no_fault_at (codes "legs") p is none))
@@ -575,7 +620,8 @@ at_check : (stop : Option (Text × List Text)) (rows : List Row) → StopsAtComm
 at_check None rows stops at none = absurd (cc)
 at_check (Some p) rows (inr (inl other)) at none = absurd (name_apart (codes "legs") (codes "check") _ rows refl refl (at_name (codes "check") (codes "legs") p rows other at))
 at_check (Some p) rows (inr (inr (inl other))) at none = absurd (name_apart (codes "mend") (codes "check") _ rows refl refl (at_name (codes "check") (codes "mend") p rows other at))
-at_check (Some p) rows (inr (inr (inr other))) at none = absurd (name_apart (codes "run") (codes "check") _ rows refl refl (at_name (codes "check") (codes "run") p rows other at))
+at_check (Some p) rows (inr (inr (inr (inl other)))) at none = absurd (name_apart (codes "run") (codes "check") _ rows refl refl (at_name (codes "check") (codes "run") p rows other at))
+at_check (Some p) rows (inr (inr (inr (inr other)))) at none = absurd (name_apart (codes "spool") (codes "check") _ rows refl refl (at_name (codes "check") (codes "spool") p rows other at))
 at_check (Some p) rows (inl is) at none =
     let same : rows_after check.rules [] p.1 ≡ rows = rows_there (codes "check") (rows_after check.rules [] p.1) rows (at_name (codes "check") (codes "check") p rows is at) in
     subst HasWindow same (check_given p.1 (no_fault_at (codes "check") p is none))
@@ -586,9 +632,21 @@ at_run None rows stops at none = absurd (cc)
 at_run (Some p) rows (inl other) at none = absurd (name_apart (codes "check") (codes "run") _ rows refl refl (at_name (codes "run") (codes "check") p rows other at))
 at_run (Some p) rows (inr (inl other)) at none = absurd (name_apart (codes "legs") (codes "run") _ rows refl refl (at_name (codes "run") (codes "legs") p rows other at))
 at_run (Some p) rows (inr (inr (inl other))) at none = absurd (name_apart (codes "mend") (codes "run") _ rows refl refl (at_name (codes "run") (codes "mend") p rows other at))
-at_run (Some p) rows (inr (inr (inr is))) at none =
+at_run (Some p) rows (inr (inr (inr (inr other)))) at none = absurd (name_apart (codes "spool") (codes "run") _ rows refl refl (at_name (codes "run") (codes "spool") p rows other at))
+at_run (Some p) rows (inr (inr (inr (inl is)))) at none =
     let same : rows_after run.rules [] p.1 ≡ rows = rows_there (codes "run") (rows_after run.rules [] p.1) rows (at_name (codes "run") (codes "run") p rows is at) in
     subst HasAll same (run_given p.1 (no_fault_at (codes "run") p is none))
+
+at_spool : (stop : Option (Text × List Text)) (rows : List Row) → StopsAtCommand stop → entered (built mcv_app) stop ≡ Some (codes "spool", rows)
+    → entered_fault (built mcv_app) stop ≡ [] → HasFile rows
+at_spool None rows stops at none = absurd (cc)
+at_spool (Some p) rows (inl other) at none = absurd (name_apart (codes "check") (codes "spool") _ rows refl refl (at_name (codes "spool") (codes "check") p rows other at))
+at_spool (Some p) rows (inr (inl other)) at none = absurd (name_apart (codes "legs") (codes "spool") _ rows refl refl (at_name (codes "spool") (codes "legs") p rows other at))
+at_spool (Some p) rows (inr (inr (inl other))) at none = absurd (name_apart (codes "mend") (codes "spool") _ rows refl refl (at_name (codes "spool") (codes "mend") p rows other at))
+at_spool (Some p) rows (inr (inr (inr (inl other)))) at none = absurd (name_apart (codes "run") (codes "spool") _ rows refl refl (at_name (codes "spool") (codes "run") p rows other at))
+at_spool (Some p) rows (inr (inr (inr (inr is)))) at none =
+    let same : rows_after spool.rules [] p.1 ≡ rows = rows_there (codes "spool") (rows_after spool.rules [] p.1) rows (at_name (codes "spool") (codes "spool") p rows is at) in
+    subst HasFile same (spool_given p.1 (no_fault_at (codes "spool") p is none))
 
 -- words that clap takes and that name `legs` give `--at` a value
 pub legs_values : (words : List Text) (rows : List Row) → faults words ≡ [] → named words ≡ Some (codes "legs", rows) → HasAt rows
@@ -601,3 +659,7 @@ check_values words rows none is = at_check (stop_of words) rows (stops_at_comman
 -- .. and those that name `run` give each of its options one
 pub run_values : (words : List Text) (rows : List Row) → faults words ≡ [] → named words ≡ Some (codes "run", rows) → HasAll rows
 run_values words rows none is = at_run (stop_of words) rows (stops_at_command words none) is (none_below words none)
+
+-- .. and those that name `spool` give its file
+pub spool_values : (words : List Text) (rows : List Row) → faults words ≡ [] → named words ≡ Some (codes "spool", rows) → HasFile rows
+spool_values words rows none is = at_spool (stop_of words) rows (stops_at_command words none) is (none_below words none)

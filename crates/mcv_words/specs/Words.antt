@@ -1,9 +1,10 @@
 -- What the words of a command line ask for. The words are those of the shell, the program's name
 -- first; how they are read is clap's: `fault_of` lists the kinds of fault that it finds with words,
 -- and `subcommand_of` the subcommand that they name.
-use Rattle.std.specs.Prelude.{◌≡◌, ◌≢◌, ◌<◌, ◌≤◌, ◌^◌, ◌⊎◌, ⊤, ℕ, true, List, [], ◌∷◌, Option, None, Some, IsSome, codes, fold, option_map}
+use Rattle.std.specs.Prelude.{◌≡◌, ◌≢◌, ◌<◌, ◌≤◌, ◌^◌, ◌⊎◌, ⊤, ℕ, Bool, true, false, List, [], ◌∷◌, Option, None, Some, IsSome, codes, fold, option_map}
 use Rattle.std.specs.Str.Parse.{IsNumeral, digits_value, without_leading_plus}
 use Rattle.clap.specs.Words.{App, IsAmong, Kinds, Row, Rule, Text, fault_of, first_of, new_app, new_rule, one_of, subcommand_of, with_rule, with_subcommand}
+use Rattle.clap.specs.declared.builder.action.ArgAction.TheVariants.{SetTrue}
 use Rattle.clap.specs.declared.builder.value_parser.ValueParser.TheVariants as parsers
 use Rattle.clap.specs.declared.error.kind.ErrorKind.{ErrorKind}
 use Rattle.clap.specs.declared.error.kind.ErrorKind.TheVariants.{DisplayHelp, DisplayVersion, OutOfMemory}
@@ -13,9 +14,10 @@ use Rattle.mcv_words.specs.declared.options.RunOptions.{RunOptions}
 use Rattle.mcv_words.specs.declared.options.ServerTimeout.{ServerTimeout}
 use Rattle.mcv_words.specs.declared.options.Sessions.{Sessions}
 use Rattle.mcv_words.specs.declared.options.Settings.{Settings}
+use Rattle.mcv_words.specs.declared.options.SpoolOptions.{SpoolOptions}
 use Rattle.mcv_words.specs.declared.options.Window.{Window}
 use Rattle.mcv_words.specs.declared.words.Job.{Job}
-use Rattle.mcv_words.specs.declared.words.Job.TheVariants.{Legs, Check, Mend, Run}
+use Rattle.mcv_words.specs.declared.words.Job.TheVariants.{Legs, Check, Mend, Run, Spool}
 use Rattle.mcv_words.specs.declared.words.LineFault.{LineFault}
 use Rattle.mcv_words.specs.declared.words.LineFault.TheVariants.{BadLine, Memory, Help, Version}
 
@@ -89,6 +91,24 @@ run_rules = listen_rule ∷ spool_rule ∷ sessions_rule ∷ proxies_rule ∷ wi
 abbrev pub run_app : App
 run_app = fold with_rule (new_app (codes "run")) run_rules
 
+-- a flag, which takes no value
+abbrev pub flag_rule : Text → Rule
+flag_rule name = record (new_rule name) {
+  long = Some name;
+  action = Some SetTrue;
+}
+
+-- `FILE`: wanted, and told by its place
+abbrev pub file_rule : Rule
+file_rule = record (new_rule (codes "file")) {
+  value_names = 1;
+  required = true;
+}
+
+-- `spool FILE [--all]`
+abbrev pub spool_app : App
+spool_app = with_rule (with_rule (new_app (codes "spool")) file_rule) (flag_rule (codes "all"))
+
 -- a command that shows its version where that is asked for
 abbrev pub with_version : App → App
 with_version app = record app { top = record app.top { has_version = true } }
@@ -97,9 +117,12 @@ with_version app = record app { top = record app.top { has_version = true } }
 abbrev pub wanting_a_command : App → App
 wanting_a_command app = record app { top = record app.top { subcommand_required = true } }
 
--- `mcv check`, `mcv legs`, `mcv mend` and `mcv run` with their options; `mcv --version`
+-- `mcv check`, `mcv legs`, `mcv mend`, `mcv run` and `mcv spool` with their options; `mcv --version`
 abbrev pub mcv_app : App
-mcv_app = with_subcommand (with_subcommand (with_subcommand (with_subcommand (wanting_a_command (with_version (new_app (codes "mcv")))) check_app.top) legs_app.top) mend_app.top) run_app.top
+mcv_app =
+    with_subcommand
+    (with_subcommand (with_subcommand (with_subcommand (with_subcommand (wanting_a_command (with_version (new_app (codes "mcv")))) check_app.top) legs_app.top) mend_app.top) run_app.top)
+    spool_app.top
 
 -- ---- what words ask for
 
@@ -160,12 +183,34 @@ pub record HasRunValues (rows : List Row) (order : RunOrder) : Type 0 where
 abbrev pub AsksRun : List Text → RunOrder → Type 0
 AsksRun words order = (faults words ≡ []) × (rows : List Row) × (named words ≡ Some (codes "run", rows)) × HasRunValues rows order
 
+-- whether a flag is given: clap reads it as `true`, and as `false` where it isn't
+abbrev pub IsFlag : (flag : Text) → List Row → Bool → Type 0
+IsFlag flag rows b =
+    (one_of flag rows ≡ Some (codes "true") → b ≡ true) × (one_of flag rows ≡ Some (codes "false") → b ≡ false) × (one_of flag rows ≡ None → b ≡ false)
+
+-- what `spool` is asked for: the name of the spool's file, and whether records that are done are shown, too
+pub record SpoolOrder : Type 0 where
+  pub file : Text
+  pub all : Bool
+
+abbrev pub spool_order_of : SpoolOptions → SpoolOrder
+spool_order_of o = record { file = o.file.now; all = o.all }
+
+-- the values of the arguments of `spool`
+abbrev pub HasSpoolValues : List Row → SpoolOrder → Type 0
+HasSpoolValues rows order = (first_of (codes "file") rows ≡ Some order.file) × IsFlag (codes "all") rows order.all
+
+-- clap takes the words, and they name the command `spool` with these values
+abbrev pub AsksSpool : List Text → SpoolOrder → Type 0
+AsksSpool words order = (faults words ≡ []) × (rows : List Row) × (named words ≡ Some (codes "spool", rows)) × HasSpoolValues rows order
+
 -- the job of `check` with these values
 abbrev pub IsCheckOf : List Row → Job → Type 0
 IsCheckOf rows (Legs at) = ⊥
 IsCheckOf rows (Check cert window) = HasCheckValues rows (option_map (λ name. name.now) cert) window
 IsCheckOf rows Mend = ⊥
 IsCheckOf rows (Run options) = ⊥
+IsCheckOf rows (Spool options) = ⊥
 
 -- the job of `run` with these values
 abbrev pub IsRunOf : List Row → Job → Type 0
@@ -173,6 +218,15 @@ IsRunOf rows (Legs at) = ⊥
 IsRunOf rows (Check cert window) = ⊥
 IsRunOf rows Mend = ⊥
 IsRunOf rows (Run options) = HasRunValues rows (order_of options)
+IsRunOf rows (Spool options) = ⊥
+
+-- the job of `spool` with these values
+abbrev pub IsSpoolOf : List Row → Job → Type 0
+IsSpoolOf rows (Legs at) = ⊥
+IsSpoolOf rows (Check cert window) = ⊥
+IsSpoolOf rows Mend = ⊥
+IsSpoolOf rows (Run options) = ⊥
+IsSpoolOf rows (Spool options) = HasSpoolValues rows (spool_order_of options)
 
 -- the option is given a number of this range
 abbrev pub IsGivenIn : (option : Text) → (least most : ℕ) → List Row → Type 0
@@ -198,6 +252,7 @@ IsJobOf words (Check cert window) = AsksCheck words (option_map (λ name. name.n
 IsJobOf words (Legs at) = (faults words ≡ []) × (rows : List Row) × (named words ≡ Some (codes "legs", rows)) × IsNumberOf (codes "at") rows at.0
 IsJobOf words Mend = AsksMend words
 IsJobOf words (Run options) = AsksRun words (order_of options)
+IsJobOf words (Spool options) = AsksSpool words (spool_order_of options)
 
 -- why words ask for no job: clap finds a fault with them that isn't the wish for help or for the
 -- version; memory ran out; they ask for help; they ask for the version

@@ -5,7 +5,8 @@ pub(crate) const ABOUT: &str =
 `mcv check` decides whether a delete can be acknowledged that was never sent to
 a server which can be read, and `mcv mend` adds the deletes that are missing.
 `mcv legs` shows to which servers a configuration sends a request. `mcv run`
-serves clients by a configuration for which that can't happen.";
+serves clients by a configuration for which that can't happen, and `mcv spool`
+shows the deletes that it keeps in a file.";
 
 pub(crate) const EXAMPLE: &str =
     "Examples: can a configuration lose a delete? Write it with the deletes that it
@@ -258,3 +259,31 @@ Exit status:
 
 A configuration that isn't read is reported as
 `mcv: configuration NUMBER at PATH`: `mcv legs --help` has the numbers.";
+
+pub(crate) const SPOOL_ABOUT: &str = "Shows the deletes that a spool's file keeps";
+
+pub(crate) const FILE: &str = "The file of the spool";
+
+pub(crate) const ALL: &str = "Deletes that are done, too";
+
+pub(crate) const SPOOL_FORM: &str =
+    "Standard output has a line for each record that is pending, in the order of the
+records' numbers, and a last one with the count of all records of the file and
+of the pending ones:
+
+  0 pending a:11211 a
+  records 3 pending 1
+
+That is number, state (`pending`, or `done` with `--all`), server and key
+without its routing prefix. In the key a byte outside 33 to 126, and `%`, is
+written as `%` with two hexadecimal digits.
+
+The file is only read, and not locked: a proxy may be using it. What that writes
+meanwhile may or may not be shown.
+
+Exit status:
+  0  done, or help was asked for
+  1  bad command line
+  4  out of memory, or a device failed: the file can't be read, or standard
+     output can't be written; or `mcv: slot NUMBER of the spool is damaged`,
+     behind the lines of the records before it";

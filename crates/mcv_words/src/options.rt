@@ -150,3 +150,12 @@ pub struct RunOptions<'a> {
     pub spool: &'a str,
     pub settings: Settings,
 }
+
+/// What `spool` is asked for.
+#[derive(Clone, Copy, Debug, PartialEq, Eq)]
+pub struct SpoolOptions<'a> {
+    /// The name of the spool's file.
+    pub file: &'a str,
+    /// Whether records that are done are shown, too.
+    pub all: bool,
+}

@@ -1,24 +1,25 @@
 //! The command line: its commands, as clap reads them. What words ask for is `IsJobOf`, and why they ask for nothing
 //! `IsLineFault`.
 
-ghost use Rattle.std.specs.Prelude.{◌≡◌, codes, false, option_map, IfOk, IfErr, IsOk, map};
-ghost use Rattle.clap.specs.Words.{Text, app_of, found_of, kind_of, rows_of, rule_of};
+ghost use Rattle.std.specs.Prelude.{◌≡◌, codes, false, option_map, IfOk, IfErr, IsOk, IsSome, map};
+ghost use Rattle.clap.specs.Words.{Text, app_of, first_of, found_of, kind_of, rows_of, rule_of};
 ghost use Rattle.clap.specs.declared.builder.command.Command.TheViews.{out-Command as fields_of};
 ghost use Rattle.mcv_words.specs.Ranges.{window_limit};
-ghost use Rattle.mcv_words.specs.Words.{at_rule, cert_rule, check_app, client_timeout_rule, legs_app, listen_rule, mcv_app, mend_app, proxies_rule, run_app, server_timeout_rule, sessions_rule, spool_rule, window_rule, line_fault_number, CanRun, IsCheckOf, IsFaultOfKind, IsGivenIn, IsJobOf, IsLineFault, IsNumberIfGiven, IsRunOf, MayBeGivenIn};
+ghost use Rattle.mcv_words.specs.Words.{at_rule, cert_rule, check_app, client_timeout_rule, file_rule, flag_rule, legs_app, listen_rule, mcv_app, mend_app, proxies_rule, run_app, server_timeout_rule, sessions_rule, spool_app, spool_rule, window_rule, line_fault_number, CanRun, IsCheckOf, IsFaultOfKind, IsGivenIn, IsJobOf, IsLineFault, IsNumberIfGiven, IsRunOf, IsSpoolOf, MayBeGivenIn};
 ghost use Rattle.mcv_words.specs.declared.words.LineFault.TheVariants.{Memory as out_of_memory};
 
 use crate::help::{
-    ABOUT, AT, CERT, CHECK_ABOUT, CHECK_FORM, CLIENT_TIMEOUT, EXAMPLE, LEGS_ABOUT, LEGS_FORM,
-    LISTEN, MEND_ABOUT, MEND_FORM, PROXIES, RUN_ABOUT, RUN_FORM, SERVER_TIMEOUT, SESSIONS, SPOOL,
-    WINDOW,
+    ABOUT, ALL, AT, CERT, CHECK_ABOUT, CHECK_FORM, CLIENT_TIMEOUT, EXAMPLE, FILE, LEGS_ABOUT,
+    LEGS_FORM, LISTEN, MEND_ABOUT, MEND_FORM, PROXIES, RUN_ABOUT, RUN_FORM, SERVER_TIMEOUT,
+    SESSIONS, SPOOL, SPOOL_ABOUT, SPOOL_FORM, WINDOW,
 };
 use crate::options::{
-    ClientTimeout, InRange, Proxies, RunOptions, ServerTimeout, Sessions, Settings, Window,
+    ClientTimeout, InRange, Proxies, RunOptions, ServerTimeout, Sessions, Settings, SpoolOptions,
+    Window,
 };
 use clap::builder::ValueParser;
 use clap::error::ErrorKind;
-use clap::{Arg, ArgMatches, Command, Error as ClapError, value_parser};
+use clap::{Arg, ArgAction, ArgMatches, Command, Error as ClapError, value_parser};
 use mcv_base::Moment;
 use std::alloc::{AllocError, Global};
 use thiserror::Error;
@@ -39,6 +40,8 @@ pub enum Job<'a> {
     Mend,
     /// To serve clients.
     Run(RunOptions<'a>),
+    /// To show the records of a spool's file.
+    Spool(SpoolOptions<'a>),
 }
 
 /// Why there is nothing to do.
@@ -229,12 +232,46 @@ fn run_command<'a>(alloc: Global) -> Result<Command<'a>, AllocError>
         .arg(client_timeout_option(alloc))
 }
 
+/// A flag by its name.
+fn flag<'a>(alloc: Global, name: &'static str, help: &'static str) -> Arg<'a>
+    ensures rule { rule_of result ≡ flag_rule name.now }
+    ensures local { result.global ≡ false }
+{
+    Arg::new(alloc, name)
+        .long(name)
+        .action(ArgAction::SetTrue)
+        .help(help)
+}
+
+fn file_argument<'a>(alloc: Global) -> Arg<'a>
+    ensures rule { rule_of result ≡ file_rule }
+    ensures local { result.global ≡ false }
+{
+    Arg::new(alloc, "file")
+        .value_name("FILE")
+        .required(true)
+        .help(FILE)
+}
+
+fn spool_command<'a>(alloc: Global) -> Result<Command<'a>, AllocError>
+    ensures app { IfOk result (λ c. app_of c ≡ spool_app) }
+    ensures local { IfOk result (λ c. (fields_of c).has_globals ≡ false) }
+{
+    Command::new(alloc, "spool")
+        .about(SPOOL_ABOUT)
+        .override_usage("mcv spool FILE [--all]")
+        .after_help(SPOOL_FORM)
+        .arg(file_argument(alloc))?
+        .arg(flag(alloc, "all", ALL))
+}
+
 fn command<'a>(alloc: Global) -> Result<Command<'a>, AllocError>
     ensures { IfOk result (λ c. app_of c ≡ mcv_app) }
 {
     let check = check_command(alloc)?;
     let legs = legs_command(alloc)?;
     let run = run_command(alloc)?;
+    let spool = spool_command(alloc)?;
     Command::new(alloc, "mcv")
         .version("1")
         .about(ABOUT)
@@ -244,7 +281,8 @@ fn command<'a>(alloc: Global) -> Result<Command<'a>, AllocError>
         .subcommand(check)?
         .subcommand(legs)?
         .subcommand(mend_command(alloc))?
-        .subcommand(run)
+        .subcommand(run)?
+        .subcommand(spool)
 }
 
 /// What clap's error says of the words.
@@ -323,6 +361,18 @@ fn run_job<'a>(found: &ArgMatches<'a>) -> Result<Job<'a>, LineFault>
     }))
 }
 
+/// The job of `spool`, by what clap found for its arguments.
+fn spool_job<'a>(found: &ArgMatches<'a>) -> Result<Job<'a>, LineFault>
+    ensures job { IfOk result (IsSpoolOf (rows_of (found_of found.now))) }
+    ensures ok { IsSome (first_of (codes "file") (rows_of (found_of found.now))) → IsOk result }
+{
+    let Some(file) = found.get_str("file") else {
+        return Err(LineFault::BadLine);
+    };
+    let all = found.get_flag("all");
+    Ok(Job::Spool(SpoolOptions { file, all }))
+}
+
 /// Reads the words of a command line, of which the first is the program's name.
 pub fn read_words<'a>(alloc: Global, words: &'a [&'a str]) -> Result<Job<'a>, LineFault>
     ensures job { IfOk result (IsJobOf (map (λ w. w.now) words.entry.now)) }
@@ -344,6 +394,12 @@ pub fn read_words<'a>(alloc: Global, words: &'a [&'a str]) -> Result<Job<'a>, Li
     }
     if let Some(found) = matches.subcommand_matches("run") {
         let Ok(job) = run_job(found) else {
+            return Err(LineFault::BadLine);
+        };
+        return Ok(job);
+    }
+    if let Some(found) = matches.subcommand_matches("spool") {
+        let Ok(job) = spool_job(found) else {
             return Err(LineFault::BadLine);
         };
         return Ok(job);

@@ -1,7 +1,7 @@
 """The cases, in the order in which they run."""
-from cases import clients, crowds, mutants, requests, servers, starts, stops
+from cases import clients, crowds, mutants, requests, servers, spools, starts, stops
 
-MODULES = [starts, requests, clients, servers, crowds, mutants, stops]
+MODULES = [starts, requests, clients, servers, spools, crowds, mutants, stops]
 
 
 def named(names):

@@ -6,8 +6,8 @@ import threading
 import time
 
 from fakes import DROP, PERFORM, PERFORM_AND_DROP, REFUSE, SILENCE, Fake
-from parts import (Client, Failed, answer, case, deletes_to_all, expect, free_port, one_pool, pending, records, replayed, stored,
-                   value_answer, wait_for)
+from parts import (Client, Failed, answer, case, deletes_to_all, expect, free_port, freeze, one_pool, pending, records, replayed,
+                   stored, value_answer, wait_for)
 
 FAILED = b"SERVER_ERROR destination failed\r\n"
 
@@ -219,14 +219,14 @@ def hung_beside(hung, up):
 def a_server_that_hangs_fails_in_its_time(machine):
     (text, process), up = machine.memcached(), machine.servers(1)[0]
     spool = machine.path("mcv.spool")
-    mcv = machine.mcv(hung_beside(text, up), server_timeout=200)
+    mcv = machine.mcv(hung_beside(text, up), server_timeout=500)
     with mcv.client() as waits, mcv.client() as works:
         waits.ask(stored(b"hung", b"1") + b"get hung\r\n", b"STORED\r\n" + value_answer(b"hung", b"1"))
-        process.send_signal(signal.SIGSTOP)
+        freeze(process)
         for turn in range(3):
             # The first over the connection that was kept, which isn't sent once more; the others over new ones.
             took = timed(waits, b"get hung\r\n", FAILED)
-            if not 0.15 < took < 5:
+            if not 0.4 < took < 5:
                 raise Failed("get %d took %.3f seconds" % (turn, took))
             works.ask(stored(b"k", b"%d" % turn) + b"get k\r\n", b"STORED\r\n" + value_answer(b"k", b"%d" % turn))
         wait_for(lambda: b"mcv: server " + text.encode() + b" is marked\n" in mcv.error_text(), "the mark")
@@ -247,7 +247,7 @@ def a_server_that_hangs_fails_in_its_time(machine):
 def what_a_server_didnt_answer_in_its_time_isnt_sent_again(machine):
     moods = iter(["perform"])
     fake = machine.fake(Fake(mood=lambda: next(moods, SILENCE)))
-    mcv = machine.mcv(one_pool([fake.text]), server_timeout=200)
+    mcv = machine.mcv(one_pool([fake.text]), server_timeout=500)
     with mcv.client() as client:
         # The second goes over the connection that was kept: closed, it would be sent once more.
         client.ask(b"get a\r\nget b\r\n", b"END\r\n" + FAILED)
@@ -268,11 +268,11 @@ def getting(mcv, count, slow, faults):
 
 @case(300)
 def half_a_million_gets_beside_a_server_that_hangs(machine):
-    """More than the history of a chapter holds, so that calls wait for the next one, which waits for calls that run. The time is
-    one that the server that is up keeps on a busy machine too."""
+    """More than the history of a chapter holds, so that calls wait for the next one, which waits for calls that run: for less
+    than the second after which a call that waits is refused. The server that is up keeps this time on a busy machine too."""
     (text, process), up = machine.memcached(), machine.servers(1)[0]
-    mcv = machine.mcv(hung_beside(text, up), server_timeout=1000)
-    process.send_signal(signal.SIGSTOP)
+    mcv = machine.mcv(hung_beside(text, up), server_timeout=600)
+    freeze(process)
     slow, faults, stop = [], [], threading.Event()
 
     def hanging():

@@ -4,8 +4,8 @@ use Rattle.clap.specs.Words.{Text}
 use Rattle.mcv_command.specs.Program.{IsStop}
 use Rattle.mcv_command.specs.declared.stop.Stop.{Stop}
 use Rattle.mcv_command.specs.declared.stop.Stop.TheVariants.{Run}
-use Rattle.mcv_command.proofs.ProgramEnds.{judging_stop, mending_stop, running_stop}
-use Rattle.mcv_words.specs.Words.{order_of}
+use Rattle.mcv_command.proofs.ProgramEnds.{judged_whole, judging_stop, listing_stop, mended_whole, mending_stop, run_is_whole, running_stop}
+use Rattle.mcv_words.specs.Words.{order_of, spool_order_of}
 use Rattle.mcv_command.proofs.program.run_words.Goals as goal
 
 pub returns-in_err-run_legs-in-Ok-Legs-clause-stop : goal.returns-in_err-run_legs-in-Ok-Legs-clause-stop
@@ -21,7 +21,7 @@ returns-in_err-run_legs-in-Ok-Legs-clause-stop g c =
 pub returns-in_err-run_legs-in-Ok-Legs-clause-silent : goal.returns-in_err-run_legs-in-Ok-Legs-clause-silent
 returns-in_err-run_legs-in-Ok-Legs-clause-silent g c =
     let gone = err_from_is_err_and c.from_residual.result c.from_residual.ensures.1 in
-    rw (gone.1) (λ no_device unasked. c.in_err-run_legs-in-Ok-Legs.ensures.silent (λ device. no_device (gone.2 ∙ ap Run device)))
+    rw (gone.1) (λ no_device unasked unlisted. c.in_err-run_legs-in-Ok-Legs.ensures.silent (λ device. no_device (gone.2 ∙ ap Run device)))
 
 pub returns-in_err-write_text-in-Err-Help-clause-stop : goal.returns-in_err-write_text-in-Err-Help-clause-stop
 returns-in_err-write_text-in-Err-Help-clause-stop g c =
@@ -56,6 +56,12 @@ returns-in-Ok-Check-None-default-clause-stop g c =
     let asks = rw (c.in-Ok-Check-None-default.field-0-is, c.in-Ok-Check-None-default.field-0-0-is) at c.in-Ok-Check-None-default.ensures.job in
     IfErr-weaker c.judge.result _ _ (λ stop holds. judging_stop words held known None c.in-Ok-Check-None-default.window stop asks holds) (c.judge.ensures.stop held)
 
+pub returns-in-Ok-Check-None-default-clause-silent : goal.returns-in-Ok-Check-None-default-clause-silent
+returns-in-Ok-Check-None-default-clause-silent g c = IfErr-weaker c.judge.result _ _ (λ stop silent no_device unasked unlisted. silent no_device) c.judge.ensures.silent
+
+pub returns-in-Ok-Check-Some-default-clause-silent : goal.returns-in-Ok-Check-Some-default-clause-silent
+returns-in-Ok-Check-Some-default-clause-silent g c = IfErr-weaker c.judge_by.result _ _ (λ stop silent no_device unasked unlisted. silent no_device) c.judge_by.ensures.silent
+
 pub returns-in-Ok-Mend-clause-done : goal.returns-in-Ok-Mend-clause-done
 returns-in-Ok-Mend-clause-done g c =
     let asks = rw c.in-Ok-Mend.field-0-is at c.in-Ok-Mend.ensures.job in
@@ -69,11 +75,17 @@ returns-in-Ok-Mend-clause-stop g c =
     let asks = rw c.in-Ok-Mend.field-0-is at c.in-Ok-Mend.ensures.job in
     IfErr-weaker c.mend.result _ _ (λ stop holds. mending_stop words held known stop asks holds) c.mend.ensures.stop
 
+pub returns-in-Ok-Mend-clause-silent : goal.returns-in-Ok-Mend-clause-silent
+returns-in-Ok-Mend-clause-silent g c = IfErr-weaker c.mend.result _ _ (λ stop silent no_device unasked unlisted. silent no_device) c.mend.ensures.silent
+
+pub returns-in-Ok-Mend-clause-listed : goal.returns-in-Ok-Mend-clause-listed
+returns-in-Ok-Mend-clause-listed g c = λ slot is. absurd (mended_whole _ (g.R.Read.remaining c.args.reader.now) slot c.mend.ensures.stop is)
+
 pub returns-in-Ok-Run-clause-done : goal.returns-in-Ok-Run-clause-done
 returns-in-Ok-Run-clause-done g c =
     let held = g.F.NamedFiles.held c.args.files.now in
     let asks = rw c.in-Ok-Run.field-0-is at c.in-Ok-Run.ensures.job in
-    IfOk-weaker c.serve.result _ _ (λ ending served. inr (inr (inr (inr (order_of c.in-Ok-Run.options, asks, served))))) (c.serve.ensures.done held)
+    IfOk-weaker c.serve.result _ _ (λ ending served. inr (inr (inr (inr (inl (order_of c.in-Ok-Run.options, asks, served)))))) (c.serve.ensures.done held)
 
 pub returns-in-Ok-Run-clause-stop : goal.returns-in-Ok-Run-clause-stop
 returns-in-Ok-Run-clause-stop g c =
@@ -86,7 +98,7 @@ returns-in-Ok-Run-clause-stop g c =
 pub returns-in-Ok-Run-clause-silent : goal.returns-in-Ok-Run-clause-silent
 returns-in-Ok-Run-clause-silent g c =
     let asks = rw c.in-Ok-Run.field-0-is at c.in-Ok-Run.ensures.job in
-    IfErr-weaker c.serve.result _ _ (λ stop silent no_device unasked. silent no_device (λ memory. unasked memory (order_of c.in-Ok-Run.options, asks))) c.serve.ensures.silent
+    IfErr-weaker c.serve.result _ _ (λ stop silent no_device unasked unlisted. silent no_device (λ memory. unasked memory (order_of c.in-Ok-Run.options, asks))) c.serve.ensures.silent
 
 pub returns-in-Ok-Check-Some-default-clause-done : goal.returns-in-Ok-Check-Some-default-clause-done
 returns-in-Ok-Check-Some-default-clause-done g c =
@@ -100,3 +112,55 @@ returns-in-Ok-Check-Some-default-clause-stop g c =
     let known = g.R.Read.remaining c.args.reader.now in
     let asks = rw (c.in-Ok-Check-Some-default.field-0-is, c.in-Ok-Check-Some-default.field-0-0-is) at c.in-Ok-Check-Some-default.ensures.job in
     IfErr-weaker c.judge_by.result _ _ (λ stop holds. judging_stop words held known (Some c.in-Ok-Check-Some-default.name.now) c.in-Ok-Check-Some-default.window stop asks holds) c.judge_by.ensures.stop
+
+pub returns-in-Ok-Spool-clause-done : goal.returns-in-Ok-Spool-clause-done
+returns-in-Ok-Spool-clause-done g c =
+    let asks = rw c.in-Ok-Spool.field-0-is at c.in-Ok-Spool.ensures.job in
+    IfOk-weaker c.list_records.result _ _ (λ ending listed. inr (inr (inr (inr (inr (spool_order_of c.in-Ok-Spool.options, asks, listed.0, listed.1)))))) c.list_records.ensures.done
+
+pub returns-in-Ok-Spool-clause-stop : goal.returns-in-Ok-Spool-clause-stop
+returns-in-Ok-Spool-clause-stop g c =
+    let words : List Text = map (λ w. w.now) c.args.words.now in
+    let held = g.F.NamedFiles.held c.args.files.now in
+    let known = g.R.Read.remaining c.args.reader.now in
+    let asks = rw c.in-Ok-Spool.field-0-is at c.in-Ok-Spool.ensures.job in
+    IfErr-weaker c.list_records.result _ _ (λ stop holds. listing_stop words held known (spool_order_of c.in-Ok-Spool.options) stop asks holds) c.list_records.ensures.stop
+
+pub returns-in-Ok-Spool-clause-silent : goal.returns-in-Ok-Spool-clause-silent
+returns-in-Ok-Spool-clause-silent g c =
+    let asks = rw c.in-Ok-Spool.field-0-is at c.in-Ok-Spool.ensures.job in
+    IfErr-weaker c.list_records.result _ _ (λ stop holds no_device unasked unlisted. absurd (unlisted (spool_order_of c.in-Ok-Spool.options, asks))) c.list_records.ensures.stop
+
+pub returns-in-Ok-Spool-clause-listed : goal.returns-in-Ok-Spool-clause-listed
+returns-in-Ok-Spool-clause-listed g c = λ slot is.
+    (spool_order_of c.in-Ok-Spool.options, rw c.in-Ok-Spool.field-0-is at c.in-Ok-Spool.ensures.job, c.list_records.ensures.listed slot is)
+
+pub returns-in_err-run_legs-in-Ok-Legs-clause-listed : goal.returns-in_err-run_legs-in-Ok-Legs-clause-listed
+returns-in_err-run_legs-in-Ok-Legs-clause-listed g c = λ slot is.
+    let gone = err_from_is_err_and c.from_residual.result c.from_residual.ensures.1 in
+    absurd (run_is_whole _ gone.0 _ slot gone.1 gone.2 is)
+
+pub returns-in_err-write_text-in-Err-Help-clause-listed : goal.returns-in_err-write_text-in-Err-Help-clause-listed
+returns-in_err-write_text-in-Err-Help-clause-listed g c = λ slot is.
+    let gone = err_from_is_err_and c.from_residual-in_err-write_text-in-Err-Help.result c.from_residual-in_err-write_text-in-Err-Help.ensures.1 in
+    absurd (run_is_whole _ gone.0 _ slot gone.1 gone.2 is)
+
+pub returns-in_err-write_text-in-Err-Version-clause-listed : goal.returns-in_err-write_text-in-Err-Version-clause-listed
+returns-in_err-write_text-in-Err-Version-clause-listed g c = λ slot is.
+    let gone = err_from_is_err_and c.from_residual-in_err-write_text-in-Err-Version.result c.from_residual-in_err-write_text-in-Err-Version.ensures.1 in
+    absurd (run_is_whole _ gone.0 _ slot gone.1 gone.2 is)
+
+pub returns-in-Ok-Check-None-default-clause-listed : goal.returns-in-Ok-Check-None-default-clause-listed
+returns-in-Ok-Check-None-default-clause-listed g c = λ slot is.
+    let held = g.F.NamedFiles.held c.args.files.now in
+    absurd (judged_whole _ held None c.in-Ok-Check-None-default.window.seconds (g.R.Read.remaining c.args.reader.now) slot (c.judge.ensures.stop held) is)
+
+pub returns-in-Ok-Check-Some-default-clause-listed : goal.returns-in-Ok-Check-Some-default-clause-listed
+returns-in-Ok-Check-Some-default-clause-listed g c = λ slot is.
+    let held = g.F.NamedFiles.held c.args.files.now in
+    absurd (judged_whole _ held (Some c.in-Ok-Check-Some-default.name.now) c.in-Ok-Check-Some-default.window.seconds (g.R.Read.remaining c.args.reader.now) slot c.judge_by.ensures.stop is)
+
+pub returns-in-Ok-Run-clause-listed : goal.returns-in-Ok-Run-clause-listed
+returns-in-Ok-Run-clause-listed g c = λ slot is.
+    let held = g.F.NamedFiles.held c.args.files.now in
+    absurd (judged_whole _ held None c.in-Ok-Run.options.settings.window.seconds (g.R.Read.remaining c.args.reader.now) slot (c.serve.ensures.stop held) is)

@@ -2,7 +2,7 @@ use Rattle.std.proofs.Common.{◌≡◌, ◌∙◌, ap, ap₂, codes}
 use Rattle.std.proofs.lemmas.Result.{IfOk-weaker}
 use Rattle.clap.specs.Words.{App, app_of, new_app, with_subcommand}
 use Rattle.clap.specs.Simple.{app_of_fields}
-use Rattle.mcv_words.specs.Words.{check_app, legs_app, mend_app, wanting_a_command, with_version}
+use Rattle.mcv_words.specs.Words.{check_app, legs_app, mend_app, run_app, wanting_a_command, with_version}
 use Rattle.mcv_words.proofs.words.command.Goals as goal
 
 pub returns : goal.returns
@@ -21,5 +21,7 @@ returns c =
     c.in_ok-subcommand-2.ensures.shape c.in_ok-legs.ensures.local ∙ ap₂ with_subcommand both (ap (λ (a : App). a.top) c.in_ok-legs.ensures.app) in
     let four : app_of c.in_ok-subcommand-3.field-0 ≡ with_subcommand (with_subcommand (with_subcommand (wanting_a_command (with_version (new_app (codes "mcv")))) check_app.top) legs_app.top) mend_app.top =
     c.in_ok-subcommand-3.ensures.shape c.mend_command.ensures.local ∙ ap₂ with_subcommand three (ap (λ (a : App). a.top) c.mend_command.ensures.app) in
-    IfOk-weaker c.subcommand-4.result _ _
-    (λ m adds. adds.shape c.in_ok-run.ensures.local ∙ ap₂ with_subcommand four (ap (λ (a : App). a.top) c.in_ok-run.ensures.app)) c.subcommand-4.ensures
+    let five : app_of c.in_ok-subcommand-4.field-0 ≡ with_subcommand (with_subcommand (with_subcommand (with_subcommand (wanting_a_command (with_version (new_app (codes "mcv")))) check_app.top) legs_app.top) mend_app.top) run_app.top =
+    c.in_ok-subcommand-4.ensures.shape c.in_ok-run.ensures.local ∙ ap₂ with_subcommand four (ap (λ (a : App). a.top) c.in_ok-run.ensures.app) in
+    IfOk-weaker c.subcommand-5.result _ _
+    (λ m adds. adds.shape c.in_ok-spool.ensures.local ∙ ap₂ with_subcommand five (ap (λ (a : App). a.top) c.in_ok-spool.ensures.app)) c.subcommand-5.ensures

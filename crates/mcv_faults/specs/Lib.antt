@@ -1,0 +1,4 @@
+pub mod FaultName
+pub mod FaultPointer
+pub mod TextPlace
+pub mod FaultLine

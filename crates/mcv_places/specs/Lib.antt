@@ -1,0 +1,5 @@
+pub mod Document
+pub mod Pointer
+pub mod Site
+pub mod Pools
+pub mod View
