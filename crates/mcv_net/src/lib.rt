@@ -4,6 +4,7 @@
 //! one by the options of a command line.
 #![tactic(auto)]
 
+mod admin;
 mod client;
 mod connection;
 mod dial;
@@ -16,16 +17,18 @@ mod loss;
 mod notice;
 mod run;
 mod seats;
+mod service;
 mod system_watch;
 
 pub use client::Client;
 pub use connection::{Connection, TcpConnection};
 pub use dial::{Dial, TcpDial};
 pub use fault::NetFault;
-pub use gates::NetGates;
+pub use gates::{Entrance, NetGates};
 pub use link::TcpLink;
 pub use loss::{Loss, may_ask_again};
-pub use notice::{Notice, Notices, StandardError};
-pub use run::{SpoolFiles, listen, run_proxy, serve};
+pub use notice::{Notice, Notices, StandardError, Watched};
+pub use run::{Listeners, SpoolFiles, listen, run_proxy, serve};
 pub use seats::Seat;
+pub use service::Service;
 pub use system_watch::SystemWatch;
