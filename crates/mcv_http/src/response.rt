@@ -1,6 +1,6 @@
 //! The bytes of a response.
 
-ghost use Rattle.std.specs.Prelude.{◌≡◌, ◌++◌, IfOk};
+ghost use Rattle.std.specs.Prelude.{◌≡◌, IfOk};
 ghost use Rattle.mcv_http.specs.Response.{response_text, status_lines};
 
 use crate::request::{Method, Refusal};
