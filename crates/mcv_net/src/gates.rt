@@ -6,6 +6,7 @@ ghost use Rattle.mcv_net.specs.Lines.{listening_line};
 
 use crate::client::Client;
 use crate::connection::TcpConnection;
+use crate::counted_link::{CountedLink, CountedServer};
 use crate::dial::TcpDial;
 use crate::fault::NetFault;
 use crate::lines::{listening_line, print_line};
@@ -17,7 +18,6 @@ use crate::system_watch::SystemWatch;
 use mcv_check::Accepted;
 use mcv_proxy::{Gates, ProxyFault};
 use mcv_spool::Disk;
-use mcv_tally::{CountedLink, CountedServer};
 use mcv_words::Settings;
 use std::alloc::{AllocError, Global};
 use std::io::{Eprint, ErrorKind, Write};

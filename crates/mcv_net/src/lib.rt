@@ -7,6 +7,7 @@
 mod admin;
 mod client;
 mod connection;
+mod counted_link;
 mod dial;
 mod exchange;
 mod fault;
@@ -22,6 +23,7 @@ mod system_watch;
 
 pub use client::Client;
 pub use connection::{Connection, TcpConnection};
+pub use counted_link::{CountedLink, CountedServer};
 pub use dial::{Dial, TcpDial};
 pub use fault::NetFault;
 pub use gates::{Entrance, NetGates};

@@ -2,10 +2,10 @@
 
 ghost use Rattle.std.specs.Prelude.{◌≡◌};
 
-use crate::tally::{ServerTally, Tally};
 use mcv_base::{LegRequest, Reply};
 use mcv_hub::Pass;
 use mcv_proxy::{Link, LinkFault};
+use mcv_tally::{ServerTally, Tally};
 use std::sync::Arc;
 
 /// Where the legs to one server are counted.
