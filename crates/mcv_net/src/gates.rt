@@ -14,6 +14,7 @@ use crate::link::{Begun, TcpLink};
 use crate::notice::{Notice, Notices, StandardError, Watched};
 use crate::seats::{Seat, Seats};
 use crate::service::Service;
+use crate::shortages::Shortages;
 use crate::system_watch::SystemWatch;
 use mcv_check::Accepted;
 use mcv_proxy::{Gates, ProxyFault};
@@ -47,6 +48,7 @@ pub struct NetGates<'a, D: Disk, W: Write, R: Drop> {
     /// How many clients are still to be served; where that has no limit, more than come.
     sessions: u64,
     seats: Seats,
+    shortages: Arc<Shortages>,
     /// Where an operator may ask for an end.
     service: Service,
     /// Whose servers have the numbers by which their legs are counted.
@@ -78,6 +80,7 @@ impl<'a, D: Disk, W: Write, R: Clock + Eprint + Copy + Drop> NetGates<'a, D, W, 
             None => u64::MAX,
         };
         let seats = Seats::new(alloc, settings.max_clients)?;
+        let shortages = Arc::new(alloc, Shortages::new())?;
         let Entrance {
             listener,
             service,
@@ -91,6 +94,7 @@ impl<'a, D: Disk, W: Write, R: Clock + Eprint + Copy + Drop> NetGates<'a, D, W, 
             settings,
             sessions,
             seats,
+            shortages,
             service,
             accepted,
             out,
@@ -259,7 +263,8 @@ where
             error: StandardError { rt: self.rt },
             service: self.service.another(),
         };
-        SystemWatch::new(self.rt, watched)
+        let shortages = Arc::try_clone(&self.shortages).ok();
+        SystemWatch::new(self.rt, watched, shortages)
     }
 
     fn opened(&mut self, pending: usize) -> Result<(), ProxyFault>

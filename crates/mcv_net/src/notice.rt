@@ -1,6 +1,8 @@
 //! What an operator sees while the proxy runs.
 
 use crate::service::Service;
+use mcv_proxy::Shortage;
+use mcv_spool::SpoolFault;
 use std::fmt;
 use std::io::Eprint;
 
@@ -11,8 +13,8 @@ pub enum Notice<'a> {
     Marked(&'a str),
     /// It has answered a probe.
     Unmarked(&'a str),
-    /// The spool refuses records.
-    Refusing,
+    /// The spool refuses records, the first for this reason.
+    Refusing(SpoolFault),
     /// It takes them again.
     Taking,
     /// There was no thread or no memory for a session.
@@ -23,6 +25,8 @@ pub enum Notice<'a> {
     Hearing,
     /// There were as many clients as there may be: so many have been refused since the start.
     Crowded(u64),
+    /// There was no place for the calls of requests: so many have been refused since the start.
+    Full(Shortage, u64),
     /// There is no limit to how long a server may take.
     Unlimited,
     /// No more clients are accepted, and all has to be done within so many seconds.
@@ -36,12 +40,18 @@ impl<'a> fmt::Display for Notice<'a> {
         match self {
             Notice::Marked(server) => write!(f, "mcv: server {server} is marked"),
             Notice::Unmarked(server) => write!(f, "mcv: server {server} answers again"),
-            Notice::Refusing => write!(f, "mcv: the spool refuses records"),
+            Notice::Refusing(fault) => write!(f, "mcv: the spool refuses records: {fault}"),
             Notice::Taking => write!(f, "mcv: the spool takes records again"),
             Notice::Unserved => write!(f, "mcv: no thread for a session"),
             Notice::Deaf => write!(f, "mcv: clients can't be accepted"),
             Notice::Hearing => write!(f, "mcv: clients are accepted again"),
             Notice::Crowded(refused) => write!(f, "mcv: too many clients: {refused} refused"),
+            Notice::Full(Shortage::Legs, refused) => {
+                write!(f, "mcv: too many legs wait: {refused} requests refused")
+            }
+            Notice::Full(Shortage::Chapter, refused) => {
+                write!(f, "mcv: the chapter is full: {refused} requests refused")
+            }
             Notice::Draining(seconds) => write!(f, "mcv: a drain began: {seconds} seconds"),
             Notice::Drained => write!(f, "mcv: a drain ended"),
             Notice::Unlimited => write!(
@@ -79,7 +89,7 @@ pub struct Watched<R: Eprint + Drop> {
 impl<R: Eprint + Drop> Notices for Watched<R> {
     fn note(&mut self, notice: Notice<'_>) {
         match notice {
-            Notice::Refusing => self.service.note_refusing(),
+            Notice::Refusing(_) => self.service.note_refusing(),
             Notice::Taking => self.service.note_taking(),
             _ => {}
         }

@@ -1,9 +1,12 @@
 //! The system's clock as a watch.
 
 use crate::notice::{Notice, Notices};
+use crate::shortages::Shortages;
 use mcv_base::Moment;
-use mcv_proxy::Watch;
+use mcv_proxy::{Shortage, Watch};
+use mcv_spool::SpoolFault;
 use std::rt::Clock;
+use std::sync::Arc;
 use std::thread;
 use std::time::{Duration, SystemTime, UNIX_EPOCH};
 
@@ -12,15 +15,18 @@ use std::time::{Duration, SystemTime, UNIX_EPOCH};
 pub struct SystemWatch<R: Clock + Drop, N: Notices> {
     rt: R,
     notices: N,
+    /// Where requests are counted for which there is no place, if they are.
+    shortages: Option<Arc<Shortages>>,
     /// The last moment, which is given again where the clock can't be read.
     last: u64,
 }
 
 impl<R: Clock + Drop, N: Notices> SystemWatch<R, N> {
-    pub fn new(rt: R, notices: N) -> SystemWatch<R, N> {
+    pub fn new(rt: R, notices: N, shortages: Option<Arc<Shortages>>) -> SystemWatch<R, N> {
         SystemWatch {
             rt,
             notices,
+            shortages,
             last: 0,
         }
     }
@@ -45,8 +51,8 @@ impl<R: Clock + Drop, N: Notices> Watch for SystemWatch<R, N> {
         thread::sleep(&self.rt, Duration::from_secs(1));
     }
 
-    fn note_refusing(&mut self) {
-        self.notices.note(Notice::Refusing);
+    fn note_refusing(&mut self, fault: SpoolFault) {
+        self.notices.note(Notice::Refusing(fault));
     }
 
     fn note_taking(&mut self) {
@@ -55,5 +61,14 @@ impl<R: Clock + Drop, N: Notices> Watch for SystemWatch<R, N> {
 
     fn note_unserved(&mut self) {
         self.notices.note(Notice::Unserved);
+    }
+
+    fn note_full(&mut self, shortage: Shortage) {
+        let Some(shortages) = &self.shortages else {
+            return;
+        };
+        if let Some(refused) = shortages.more(shortage) {
+            self.notices.note(Notice::Full(shortage, refused));
+        }
     }
 }

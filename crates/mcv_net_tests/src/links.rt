@@ -9,7 +9,8 @@ use mcv_base::{LegRequest, Op, Reply, Rest};
 use mcv_check::Accepted;
 use mcv_hub::{Hub, HubLedger, Pass};
 use mcv_net::{CountedLink, CountedServer, Notice, TcpLink};
-use mcv_proxy::{Link, LinkFault};
+use mcv_proxy::{Link, LinkFault, Shortage};
+use mcv_spool::SpoolFault;
 use mcv_tally::Tally;
 use mcv_verdict::{Judgement, judge_input};
 use std::alloc::Global;
@@ -396,8 +397,20 @@ fn notices_are_lines(rt: HostRuntime) {
     check_notice(
         &rt,
         alloc,
-        Notice::Refusing,
-        "mcv: the spool refuses records",
+        Notice::Refusing(SpoolFault::Full),
+        "mcv: the spool refuses records: the spool is full",
+    );
+    check_notice(
+        &rt,
+        alloc,
+        Notice::Full(Shortage::Legs, 1000),
+        "mcv: too many legs wait: 1000 requests refused",
+    );
+    check_notice(
+        &rt,
+        alloc,
+        Notice::Full(Shortage::Chapter, 1),
+        "mcv: the chapter is full: 1 requests refused",
     );
     check_notice(
         &rt,

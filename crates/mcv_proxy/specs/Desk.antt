@@ -19,6 +19,8 @@ use Rattle.mcv_pools.specs.Hash.{fnv_index}
 use Rattle.mcv_route.specs.Places.{route_of_prefix}
 use Rattle.mcv_route.specs.Routes.{RoutesValue}
 use Rattle.mcv_proxy.specs.Events.{Begins}
+use Rattle.mcv_proxy.specs.declared.gates.Shortage.{Shortage}
+use Rattle.mcv_proxy.specs.declared.gates.Shortage.TheVariants.{Legs, Chapter}
 use Rattle.mcv_session.specs.Desk.{keys_of}
 use Rattle.mcv_session.specs.declared.desk.DeskFault.{DeskFault}
 use Rattle.mcv_session.specs.declared.desk.DeskFault.TheVariants as answers
@@ -169,6 +171,12 @@ desk_fault Busy = answers.Busy
 desk_fault ClockBack = answers.Busy
 desk_fault Memory = answers.Memory
 desk_fault NoSuchCall = answers.Busy
+
+-- what has no place for a call that is refused for this cause
+abbrev pub shortage_of : CoreFault → Option Shortage
+shortage_of LegsFull = Some Legs
+shortage_of ChapterFull = Some Chapter
+shortage_of _ = None
 
 pub record IsFaultOf (opened : CoreView) (request : RequestValue) (calls : List CallId) (taken : List TakenReply) (fault : DeskFault) : Type 0 where
   pub cause : CoreFault

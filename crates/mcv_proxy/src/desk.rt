@@ -7,13 +7,13 @@ ghost use Rattle.mcv_route.specs.Codes.{routes_code};
 ghost use Rattle.std.specs.List.{All, filter};
 ghost use Rattle.mcv_text.specs.Request.{request_value};
 ghost use Rattle.mcv_session.specs.Desk.{keys_of};
-ghost use Rattle.mcv_proxy.specs.Desk.{AreBegun, AreFor, AreTaken, Asks, HasMissing, IsFor, IsRouted, IsUnanswered, IsUnrouted, WasBegun, WasMissing, WasRefused, WasTaken, desk_fault, with_receipt, word_at};
+ghost use Rattle.mcv_proxy.specs.Desk.{AreBegun, AreFor, AreTaken, Asks, HasMissing, IsFor, IsRouted, IsUnanswered, IsUnrouted, WasBegun, WasMissing, WasRefused, WasTaken, desk_fault, shortage_of, with_receipt, word_at};
 
 use crate::agenda::Agenda;
 use crate::errands::Errands;
 use crate::events;
 use crate::events::Attempt;
-use crate::gates::{Link, Watch};
+use crate::gates::{Link, Shortage, Watch};
 use crate::lanes::{Lanes, Links};
 use mcv_base::{CallId, Op, Part, Request, Rest, key_words_have_one_reading, split_key};
 use mcv_core::CoreFault;
@@ -123,6 +123,17 @@ fn fault_for(fault: CoreFault) -> DeskFault
         | CoreFault::Busy
         | CoreFault::ClockBack
         | CoreFault::NoSuchCall => DeskFault::Busy,
+    }
+}
+
+/// What has no place for a call that the core refuses so.
+fn shortage_of(fault: CoreFault) -> Option<Shortage>
+    ensures { result ≡ shortage_of fault }
+{
+    match fault {
+        CoreFault::LegsFull => Some(Shortage::Legs),
+        CoreFault::ChapterFull => Some(Shortage::Chapter),
+        _ => None,
     }
 }
 
@@ -464,6 +475,15 @@ impl<'a, B: HubLedger, T: Ledger, L: Link, W: Watch, R: Wait + Clock> Caller<'a,
         self.seat
     }
 
+    /// Notes that there is no place for calls, where the core refused one for that.
+    fn note_full(&mut self, fault: CoreFault)
+        ensures { self.new.seat ≡ self.old.seat }
+    {
+        if let Some(shortage) = shortage_of(fault) {
+            self.watch.note_full(shortage);
+        }
+    }
+
     /// Begins the calls for the keys of a request at this moment, in their order, up to the first that is refused, and puts a
     /// leg of theirs in flight where that can be done at once.
     fn begin_all(
@@ -665,7 +685,10 @@ impl<'a, B: HubLedger, T: Ledger, L: Link, W: Watch, R: Wait + Clock> Desk
         } = room;
         match self.take_replies(request, &mut calls, &mut taken) {
             Ok(()) => Ok(into_parts(taken, parts)),
-            Err(fault) => Err(fault_for(fault)),
+            Err(fault) => {
+                self.caller.note_full(fault);
+                Err(fault_for(fault))
+            }
         }
     }
 }

@@ -3,7 +3,7 @@
 use crate::fault::ProxyFault;
 use mcv_base::{LegRequest, Moment, Reply};
 use mcv_hub::Pass;
-use mcv_spool::Disk;
+use mcv_spool::{Disk, SpoolFault};
 use std::alloc::AllocError;
 use std::io::{Read, Write};
 use std::time::Duration;
@@ -60,6 +60,15 @@ pub trait Link: Drop {
     fn note_unmarked(&mut self, _pass: &Pass) {}
 }
 
+/// What has no place for the calls of a request.
+#[derive(Clone, Copy, Debug, PartialEq, Eq)]
+pub enum Shortage {
+    /// The queues of legs.
+    Legs,
+    /// The history of the chapter.
+    Chapter,
+}
+
 /// The time, as one thread sees it.
 pub trait Watch: Drop {
     /// Seconds since 1970.
@@ -73,14 +82,17 @@ pub trait Watch: Drop {
         Duration::from_secs(1)
     }
 
-    /// Notes that the spool refuses records from now on.
-    fn note_refusing(&mut self) {}
+    /// Notes that the spool refuses records from now on, and why it refused the first.
+    fn note_refusing(&mut self, _fault: SpoolFault) {}
 
     /// Notes that the spool takes records again.
     fn note_taking(&mut self) {}
 
     /// Notes that a client isn't served, since there was no thread or no memory for its session.
     fn note_unserved(&mut self) {}
+
+    /// Notes that a request was refused, since there was no place for its calls.
+    fn note_full(&mut self, _shortage: Shortage) {}
 }
 
 /// What a proxy talks to: servers, a disk, clients and the clock.

@@ -32,7 +32,7 @@ pub use crate::destination::serve_destination;
 pub use crate::ends::Ends;
 pub use crate::fault::ProxyFault;
 pub use crate::fleet::start;
-pub use crate::gates::{Gates, Link, LinkFault, Watch};
+pub use crate::gates::{Gates, Link, LinkFault, Shortage, Watch};
 pub use crate::lanes::{Lanes, Links};
 pub use crate::replay::serve_replay;
 pub use crate::spooling::serve_spool;
