@@ -47,10 +47,10 @@ impl<'a> fmt::Display for Notice<'a> {
             Notice::Hearing => write!(f, "mcv: clients are accepted again"),
             Notice::Crowded(refused) => write!(f, "mcv: too many clients: {refused} refused"),
             Notice::Full(Shortage::Legs, refused) => {
-                write!(f, "mcv: too many legs wait: {refused} requests refused")
+                write!(f, "mcv: too many legs wait: {refused} refused")
             }
             Notice::Full(Shortage::Chapter, refused) => {
-                write!(f, "mcv: the chapter is full: {refused} requests refused")
+                write!(f, "mcv: the chapter is full: {refused} refused")
             }
             Notice::Draining(seconds) => write!(f, "mcv: a drain began: {seconds} seconds"),
             Notice::Drained => write!(f, "mcv: a drain ended"),

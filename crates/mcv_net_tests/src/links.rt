@@ -404,13 +404,13 @@ fn notices_are_lines(rt: HostRuntime) {
         &rt,
         alloc,
         Notice::Full(Shortage::Legs, 1000),
-        "mcv: too many legs wait: 1000 requests refused",
+        "mcv: too many legs wait: 1000 refused",
     );
     check_notice(
         &rt,
         alloc,
         Notice::Full(Shortage::Chapter, 1),
-        "mcv: the chapter is full: 1 requests refused",
+        "mcv: the chapter is full: 1 refused",
     );
     check_notice(
         &rt,
