@@ -24,7 +24,7 @@ use std::alloc::{AllocError, Global};
 use std::io::{Eprint, ErrorKind, Write};
 use std::net::{Net, TcpListener, TcpStream};
 use std::rt::Clock;
-use std::sync::Arc;
+use std::sync::{Arc, Wait};
 use std::thread;
 use std::time::Duration;
 
@@ -45,6 +45,7 @@ pub struct NetGates<'a, D: Disk, W: Write, R: Drop> {
     listener: Option<TcpListener>,
     disk: Option<D>,
     settings: Settings,
+    error: StandardError<R>,
     /// How many clients are still to be served; where that has no limit, more than come.
     sessions: u64,
     seats: Seats,
@@ -66,13 +67,13 @@ pub(crate) fn passes(kind: ErrorKind) -> bool {
     kind != ErrorKind::InvalidInput && kind != ErrorKind::Unsupported
 }
 
-impl<'a, D: Disk, W: Write, R: Clock + Eprint + Copy + Drop> NetGates<'a, D, W, R> {
+impl<'a, D: Disk, W: Write, R: Clock + Eprint + Wait + Copy + Drop> NetGates<'a, D, W, R> {
     pub fn new(
-        rt: R,
         alloc: Global,
         entrance: Entrance,
         disk: D,
         settings: Settings,
+        error: StandardError<R>,
         out: &'a mut W,
     ) -> Result<NetGates<'a, D, W, R>, AllocError> {
         let sessions = match settings.sessions {
@@ -87,11 +88,12 @@ impl<'a, D: Disk, W: Write, R: Clock + Eprint + Copy + Drop> NetGates<'a, D, W, 
             accepted,
         } = entrance;
         Ok(NetGates {
-            rt,
+            rt: error.rt,
             alloc,
             listener: Some(listener),
             disk: Some(disk),
             settings,
+            error,
             sessions,
             seats,
             shortages,
@@ -102,8 +104,10 @@ impl<'a, D: Disk, W: Write, R: Clock + Eprint + Copy + Drop> NetGates<'a, D, W, 
         })
     }
 
-    fn note(&self, notice: Notice<'_>) {
-        StandardError { rt: self.rt }.note(notice);
+    fn note(&mut self, notice: Notice<'_>)
+        ensures { self.new.sessions ≡ self.old.sessions }
+    {
+        self.error.note(notice);
     }
 
     /// Notes whether clients can be accepted, where that is another answer than before.
@@ -202,6 +206,7 @@ where
     D: Disk + Send + 'static,
     W: Write,
     R: Net<Stream = TcpStream, Listener = TcpListener>
+        + Wait
         + Clock
         + Eprint
         + Copy
@@ -227,7 +232,7 @@ where
             timeout: self.settings.server_timeout,
             service: self.service.another(),
         };
-        let notices = StandardError { rt: self.rt };
+        let notices = self.error.another();
         let link = TcpLink::new(self.alloc, server, dial, notices)?;
         Ok(CountedLink::new(link, self.counted(server)))
     }
@@ -260,7 +265,7 @@ where
 
     fn watch(&mut self) -> Self::Watch {
         let watched = Watched {
-            error: StandardError { rt: self.rt },
+            error: self.error.another(),
             service: self.service.another(),
         };
         let shortages = Arc::try_clone(&self.shortages).ok();
