@@ -412,6 +412,7 @@ fn notices_are_lines(rt: HostRuntime) {
         Notice::Full(Shortage::Chapter, 1),
         "mcv: the chapter is full: 1 refused",
     );
+    check_notice(&rt, alloc, Notice::More(3), "mcv: 3 lines more in a second");
     check_notice(
         &rt,
         alloc,
