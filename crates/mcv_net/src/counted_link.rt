@@ -25,7 +25,8 @@ pub struct CountedLink<L: Link> {
 
 impl<L: Link> CountedLink<L> {
     pub fn new(link: L, counted: Option<CountedServer>) -> CountedLink<L>
-        ensures { result.link ≡ link }
+        ensures link { result.link ≡ link }
+        ensures counted { result.counted ≡ counted }
     {
         CountedLink { link, counted }
     }

@@ -1,7 +1,10 @@
 //! What a proxy on sockets talks to.
 
 ghost use Rattle.std.specs.Prelude.{◌≡◌, ◌<◌, ℕ, List, IfSome, OnOk};
+ghost use Rattle.std.specs.Arc.{arc_value};
 ghost use Rattle.std.specs.Io.KnownBytes.{Appends};
+ghost use Rattle.std.specs.Str.{bytes_eq};
+ghost use Rattle.mcv_pools.specs.Table.{number_in};
 ghost use Rattle.mcv_net.specs.Lines.{listening_line};
 
 use crate::client::Client;
@@ -177,8 +180,10 @@ impl<'a, D: Disk, W: Write, R: Clock + Eprint + Wait + Copy + Drop> NetGates<'a,
         None
     }
 
-    /// Where the legs to the server of this text are counted, if they are.
-    fn counted(&self, server: &str) -> Option<CountedServer> {
+    /// Where the legs to the server of this text are counted, if they are: by the server's own number.
+    fn counted(&self, server: &str) -> Option<CountedServer>
+        ensures { IfSome result (λ counted. Some counted.number ≡ number_in bytes_eq (arc_value self.now.accepted).servers server.now) }
+    {
         let tally = self.service.tally()?;
         let id = self.accepted.routes().servers().find(server)?;
         Some(CountedServer {
