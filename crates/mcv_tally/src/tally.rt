@@ -1,6 +1,7 @@
 //! The numbers of a proxy.
 
 ghost use Rattle.std.specs.Prelude.{◌≡◌, ◌<◌, IfOk, Some, length, slice_get, string_bytes};
+ghost use Rattle.std.specs.Option.{option_map};
 ghost use Rattle.mcv_tally.specs.Tally.{listed, tallied};
 
 use crate::count::Count;
@@ -134,7 +135,9 @@ impl Tally {
     }
 
     /// That of the server of this number.
-    pub fn server(&self, number: usize) -> Option<&ServerTally> {
+    pub fn server(&self, number: usize) -> Option<&ServerTally>
+        ensures { option_map (λ tally. tally.now) result ≡ slice_get self.now.servers.items number }
+    {
         self.servers.get(number)
     }
 
