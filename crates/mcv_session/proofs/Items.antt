@@ -1,5 +1,5 @@
 -- Items in a row: those that a session takes, and their answers.
-use Rattle.std.proofs.Common.{◌≡◌, List, [], ◌∷◌, ◌++◌, Bool, true, false, refl, ap, subst, Result, Ok, Err, if◌then◌else◌, OnErr}
+use Rattle.std.proofs.Common.{◌≡◌, List, [], ◌∷◌, ◌++◌, Bool, false, refl, ap, subst, Result, Ok, Err, if◌then◌else◌, OnErr}
 use Rattle.std.specs.List.{list_any}
 use Rattle.mcv_base.specs.Reply.{ReplyValue}
 use Rattle.mcv_text.specs.Request.{RequestValue, ItemValue}

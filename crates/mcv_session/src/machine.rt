@@ -1,12 +1,12 @@
 //! A session that waits for nobody: it is fed with bytes, gives requests one after the other, is given their answers,
 //! and holds what is to be written.
 
-ghost use Rattle.std.specs.Prelude.{◌≡◌, ◌≢◌, ◌↔◌, ◌<◌, ◌≤◌, ◌++◌, [], ◌∷◌, List, map, length, take, drop, None, Some, IfOk, OnOk, OnErr, MatchOption, ⊤, Err, Ok};
+ghost use Rattle.std.specs.Prelude.{◌≡◌, ◌≢◌, ◌↔◌, ◌<◌, ◌≤◌, ◌++◌, [], map, length, drop, None, Some, IfOk, OnOk, OnErr, MatchOption, ⊤, Err, Ok};
 ghost use Rattle.std.specs.Option.{option_to_list};
 ghost use Rattle.std.specs.Result.{IsErrOf};
 ghost use Rattle.std.specs.Arc.{arc_value};
 ghost use Rattle.mcv_base.specs.Reply.{part_value};
-ghost use Rattle.mcv_text.specs.Request.{AskValue, RequestValue, asked, asking, item_value, request_value};
+ghost use Rattle.mcv_text.specs.Request.{AskValue, asking, item_value, request_value};
 ghost use Rattle.mcv_text.specs.Stream.{Awaits, Held};
 ghost use Rattle.mcv_session.specs.Exchange.{by_desk, text_of};
 ghost use Rattle.mcv_session.specs.Machine.{Fails, Feeds, History, Lived, Passes, Replies, unused};
@@ -266,6 +266,7 @@ impl Machine {
         ensures asks { IfOk result (λ found. MatchOption found (self.new.request ≡ self.old.request)
             (λ r. ((ask : AskValue) × (request_value (arc_value r) ≡ asking ask)) × (self.new.request ≡ Some (request_value (arc_value r))) × (self.old.request ≡ None) × (self.new.phase ≡ Phase.Open) × (length self.new.waiting < length self.old.waiting))) }
         ensures idle { IfOk result (λ found. found ≡ None → self.new.request ≡ None → self.new.phase ≡ Phase.Open → self.new.waiting ≡ []) }
+        ensures goes_on { OnOk result (self.new.phase ≡ Phase.Failed → self.old.phase ≡ Phase.Failed) }
         ensures err { OnErr result (self.new.phase ≡ Phase.Failed) }
     {
         if self.request.is_some() {

@@ -18,8 +18,8 @@ returns-in_err-covered_output-in-Covered-clause-fault c =
     let gone = err_from_is_err_and c.from_residual-in_err-covered_output-in-Covered.result c.from_residual-in_err-covered_output-in-Covered.ensures.1 in
     rw (gone.1) (subst (λ (fault : RunFault). IsRefusedFor c.args.routes given fault) (sym gone.2) (memory_refuses c.args.routes given))
 
-pub returns-in-Covered-clause-output : goal.returns-in-Covered-clause-output
-returns-in-Covered-clause-output c =
+pub returns-in_ok-covered_output-in-Covered-clause-output : goal.returns-in_ok-covered_output-in-Covered-clause-output
+returns-in_ok-covered_output-in-Covered-clause-output c =
     let given : Option (List ℕ) = option_map (λ s. s.now) c.args.certificate in
     let judged = rw c.in-Covered.is at c.in_ok-accepted.ensures.judged in
     let output = c.in_ok-covered_output-in-Covered in
@@ -32,8 +32,8 @@ returns-in_err-lost_output-in-Lost-clause-fault c =
     let gone = err_from_is_err_and c.from_residual-in_err-lost_output-in-Lost.result c.from_residual-in_err-lost_output-in-Lost.ensures.1 in
     rw (gone.1) (subst (λ (fault : RunFault). IsRefusedFor c.args.routes given fault) (sym gone.2) (memory_refuses c.args.routes given))
 
-pub returns-clause-output : goal.returns-clause-output
-returns-clause-output c =
+pub returns-in_ok-lost_output-in-Lost-clause-output : goal.returns-in_ok-lost_output-in-Lost-clause-output
+returns-in_ok-lost_output-in-Lost-clause-output c =
     let given : Option (List ℕ) = option_map (λ s. s.now) c.args.certificate in
     let judged = rw c.in-Lost.is at c.in_ok-accepted.ensures.judged in
     let output = c.in_ok-lost_output-in-Lost in

@@ -9,8 +9,8 @@ use Rattle.mcv_verdict.proofs.run.judge_made.Goals as goal
 pub returns-in-Err-clause-fault : goal.returns-in-Err-clause-fault
 returns-in-Err-clause-fault c = c.refused.ensures ∙ ap of_check (c.in-Err.ensures.justified c.in-Ok.ensures.justified)
 
-pub returns-in-Ok-clause-judged : goal.returns-in-Ok-clause-judged
-returns-in-Ok-clause-judged c =
+pub returns-in-Ok-check-clause-judged : goal.returns-in-Ok-check-clause-judged
+returns-in-Ok-check-clause-judged c =
     let same = c.in-Ok-check.ensures.accepted.0 in
     subst (λ (found : Judged). IsJudged c.args.routes found) (sym c.covered_by.ensures.found) (
       same,
@@ -28,8 +28,8 @@ returns-in-Err-Lost-clause-judged c =
       refl,
       record {
         uncovered = rw is at c.in-Err-Lost.ensures.uncovered;
-        known = rw is at c.in-Err-Lost.ensures.known;
-        first = rw is at c.in-Err-Lost.ensures.lost;
-        shown = rw is at c.in-Err-Lost.ensures.shown;
+        known = rw is (rw is at c.in-Err-Lost.ensures.known);
+        first = rw is (rw is at c.in-Err-Lost.ensures.lost);
+        shown = rw is (rw is at c.in-Err-Lost.ensures.shown);
       },
     )

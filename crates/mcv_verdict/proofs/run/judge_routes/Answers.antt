@@ -13,8 +13,8 @@ returns-in_err-finding_text-in-Lost-clause-fault c =
     let gone = err_from_is_err_and c.from_residual-in_err-finding_text-in-Lost.result c.from_residual-in_err-finding_text-in-Lost.ensures.1 in
     rw (gone.1) (gone.2)
 
-pub returns-clause-judged : goal.returns-clause-judged
-returns-clause-judged c =
+pub returns-in_ok-finding_text-in-Lost-clause-judged : goal.returns-in_ok-finding_text-in-Lost-clause-judged
+returns-in_ok-finding_text-in-Lost-clause-judged c =
     let judged = rw c.in-Lost.is at c.in_ok-accepted.ensures.judged in
     let finding = finding_of c.in-Lost.finding in
     (finding, judged.1, c.in_ok-finding_text-in-Lost.ensures ∙ ap (λ (r : RoutesValue). finding_text r finding) judged.0)
