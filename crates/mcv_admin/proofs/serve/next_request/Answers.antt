@@ -1,4 +1,4 @@
-use Rattle.std.proofs.Common.{◌≡◌, ◌∙◌, ◌+◌, None, arith, subst, sym, take}
+use Rattle.std.proofs.Common.{◌∙◌, ◌+◌, None, arith, subst, sym, take}
 use Rattle.std.specs.Io.KnownBytes.{Consumes}
 use Rattle.mcv_admin.proofs.Coming.{HasCome, ended_there, enough_reads, known_read, more_has_come, nothing_has_come, some_read, still_none}
 use Rattle.mcv_admin.proofs.serve.next_request.Goals as goal
