@@ -3,8 +3,8 @@
 so that a check above it needn't build it anew. For development only: nothing but the gate is a verdict. With FROM another clone, LOG is '-' and
 its own stamps say what is built. Prints what is still missing."""
 import importlib.machinery, importlib.util, os, re, sys, subprocess, shutil
-clone = os.path.realpath(sys.argv[1]); src = os.path.realpath(sys.argv[2] if len(sys.argv) > 2 else "/work/gate/cand")
-log = sys.argv[3] if len(sys.argv) > 3 else "/work/gate/log"
+clone = os.path.realpath(sys.argv[1]); src = os.path.realpath(sys.argv[2] if len(sys.argv) > 2 else "/work/pool")
+log = sys.argv[3] if len(sys.argv) > 3 else "-"
 sys.path.insert(0, "/opt/rattle/bin")
 loader = importlib.machinery.SourceFileLoader("rtmod", "/opt/rattle/bin/rt"); spec = importlib.util.spec_from_loader("rtmod", loader)
 rt = importlib.util.module_from_spec(spec); loader.exec_module(rt)
