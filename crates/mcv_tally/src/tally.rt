@@ -19,9 +19,9 @@ pub struct ServerTally {
     pub sent: Count,
     /// Legs of these that got no reply.
     pub lost: Count,
-    /// How often a proxy marked it.
+    /// How often a hub marked it.
     pub marked: Count,
-    /// How often it answered such a proxy again.
+    /// How often it answered such a hub again.
     pub unmarked: Count,
 }
 
