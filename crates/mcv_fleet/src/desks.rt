@@ -17,7 +17,7 @@ use mcv_base::{CallId, Moment, Part, Request, key_words_have_one_reading};
 use mcv_core::CoreFault;
 use mcv_hub::{Pass, Receipt, TakenReply};
 use mcv_hubs::{At, HubCall, HubChoice, HubNames, HubPasses, MOST_HUBS, Names, Seats};
-use mcv_proxy::{HubDesk, Link, Watch, fault_for, into_parts, key_count};
+use mcv_proxy::{HubDesk, Link, Outlook, Watch, fault_for, into_parts, key_count, shortage_of};
 use mcv_session::{Desk, DeskFault};
 use mcv_spool::Disk;
 use std::alloc::{AllocError, Global};
@@ -306,6 +306,44 @@ impl<'a, F: HubNames, G: Names, L: Link, W: Watch, R: Wait + Clock> HubsDesk<'a,
         }
     }
 
+    /// What this session's requests have shown of the hub of this number.
+    fn outlook_at(&self, hub: usize) -> Outlook
+        requires { hub < 8 }
+    {
+        match hub {
+            0 => self.desk0.outlook(),
+            1 => self.desk1.outlook(),
+            2 => self.desk2.outlook(),
+            3 => self.desk3.outlook(),
+            4 => self.desk4.outlook(),
+            5 => self.desk5.outlook(),
+            6 => self.desk6.outlook(),
+            _ => self.desk7.outlook(),
+        }
+    }
+
+    /// Notes what a request has shown of the hub of this number.
+    fn note_at(&mut self, hub: usize)
+        requires { hub < 8 }
+    {
+        let Outlook {
+            chapter,
+            load,
+            shortage,
+        } = self.outlook_at(hub);
+        self.watch.note_load(hub, chapter, load);
+        if let Some(shortage) = shortage {
+            self.watch.note_full(shortage);
+        }
+    }
+
+    /// Notes what had no place for a call that was refused so, if anything.
+    fn note_refused(&mut self, fault: CoreFault) {
+        if let Some(shortage) = shortage_of(fault) {
+            self.watch.note_full(shortage);
+        }
+    }
+
     /// Waits until calls may begin at the hub of this number, where its next chapter is due.
     fn enter_at(&mut self, hub: usize)
         requires { hub < 8 }
@@ -497,7 +535,10 @@ impl<'a, F: HubNames, G: Names, L: Link, W: Watch, R: Wait + Clock> HubsDesk<'a,
                 let Room { taken, parts, .. } = room;
                 Ok(into_parts(taken, parts))
             }
-            Err(fault) => Err(fault_for(fault)),
+            Err(fault) => {
+                self.note_refused(fault);
+                Err(fault_for(fault))
+            }
         }
     }
 }
@@ -511,9 +552,15 @@ impl<'a, F: HubNames, G: Names, L: Link, W: Watch, R: Wait + Clock> Desk
     fn ask(&mut self, request: &Arc<Request>) -> Result<Vec<Part>, DeskFault> {
         let moment = self.watch.moment();
         let words: &Request = request;
-        match one_hub(self.choice, words) {
-            Some(hub) => self.ask_at(hub, moment, request),
+        let answer = match one_hub(self.choice, words) {
+            Some(hub) => {
+                let answer = self.ask_at(hub, moment, request);
+                self.note_at(hub);
+                answer
+            }
             None => self.ask_each(moment, words),
-        }
+        };
+        self.watch.note_answer(words, &answer);
+        answer
     }
 }

@@ -6,13 +6,13 @@ use crate::gates::passes;
 use crate::notice::{Notice, Notices, StandardError};
 use crate::service::Service;
 use mcv_admin::{Health, Panel, serve_request};
-use mcv_check::Accepted;
 use mcv_metrics::Snapshot;
 use mcv_tally::Tally;
 use std::alloc::{AllocError, Global};
 use std::io::Eprint;
 use std::net::{Net, SocketAddr, TcpListener, TcpStream};
 use std::rt::Clock;
+use std::sync::Wait;
 use std::thread;
 use std::thread::Threads;
 use std::time::{Duration, Instant};
@@ -25,13 +25,14 @@ const SECONDS: u64 = 5;
 struct NetPanel<R: Drop> {
     rt: R,
     service: Service,
+    error: StandardError<R>,
     /// The start, which the end is counted from where the clock can't be read.
     since: Instant,
     /// Where clients are accepted.
     clients: SocketAddr,
 }
 
-impl<R: Net<Stream = TcpStream> + Clock + Eprint + Copy + Drop> Panel for NetPanel<R> {
+impl<R: Net<Stream = TcpStream> + Clock + Eprint + Wait + Copy + Drop> Panel for NetPanel<R> {
     ghost use Rattle.std.specs.Prelude.{⊤};
 
     // Other threads change what is said.
@@ -53,7 +54,7 @@ impl<R: Net<Stream = TcpStream> + Clock + Eprint + Copy + Drop> Panel for NetPan
     fn drain(&mut self, seconds: u64) {
         let now = Instant::now(&self.rt).unwrap_or(self.since);
         if self.service.end_within(now, seconds) {
-            StandardError { rt: self.rt }.note(Notice::Draining(seconds));
+            self.error.note(Notice::Draining(seconds));
         }
     }
 }
@@ -70,7 +71,7 @@ impl<R: Net<Stream = TcpStream> + Drop> NetPanel<R> {
 }
 
 /// Answers one request. What fails is the operator's.
-fn answer<R: Net<Stream = TcpStream> + Clock + Eprint + Copy + Drop>(
+fn answer<R: Net<Stream = TcpStream> + Clock + Eprint + Wait + Copy + Drop>(
     rt: R,
     alloc: Global,
     stream: TcpStream,
@@ -89,7 +90,7 @@ fn answer<R: Net<Stream = TcpStream> + Clock + Eprint + Copy + Drop>(
 }
 
 /// Answers requests, one connection after another.
-fn attend<R: Net<Stream = TcpStream, Listener = TcpListener> + Clock + Eprint + Copy + Drop>(
+fn attend<R: Net<Stream = TcpStream, Listener = TcpListener> + Clock + Eprint + Wait + Copy + Drop>(
     rt: R,
     alloc: Global,
     listener: TcpListener,
@@ -107,17 +108,19 @@ fn attend<R: Net<Stream = TcpStream, Listener = TcpListener> + Clock + Eprint + 
     }
 }
 
-/// Answers an operator at this listener from now on, while clients come to that address.
+/// Answers an operator at this listener from now on, of what is counted in the tally, while clients come to that address.
 pub(crate) fn serve_operators<R>(
     rt: R,
     alloc: Global,
-    accepted: &Accepted,
+    tally: Tally,
     listener: TcpListener,
     clients: SocketAddr,
+    error: StandardError<R>,
 ) -> Result<Service, NetFault>
 where
     R: Net<Stream = TcpStream, Listener = TcpListener>
         + Threads
+        + Wait
         + Clock
         + Eprint
         + Copy
@@ -126,11 +129,11 @@ where
         + 'static,
 {
     let since = Instant::now(&rt)?;
-    let tally = Tally::new(alloc, accepted.routes().servers())?;
     let service = Service::new(alloc, since, tally)?;
     let panel = NetPanel {
         rt,
         service: service.another(),
+        error,
         since,
         clients,
     };

@@ -80,4 +80,11 @@ impl<L: Link> Link for CountedLink<L> {
         }
         self.link.note_unmarked(pass);
     }
+
+    fn note_replayed(&mut self, pass: &Pass) {
+        if let Some(tally) = self.tally() {
+            tally.replayed.more();
+        }
+        self.link.note_replayed(pass);
+    }
 }

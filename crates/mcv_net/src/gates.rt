@@ -17,7 +17,8 @@ use crate::link::{Begun, TcpLink};
 use crate::notice::{Notice, Notices, StandardError, Watched};
 use crate::seats::{Seat, Seats};
 use crate::service::Service;
-use crate::system_watch::SystemWatch;
+use crate::shortages::Shortages;
+use crate::system_watch::{Counters, SystemWatch};
 use mcv_check::Accepted;
 use mcv_proxy::{Gates, ProxyFault};
 use mcv_spool::Disk;
@@ -26,7 +27,7 @@ use std::alloc::{AllocError, Global};
 use std::io::{Eprint, ErrorKind, Write};
 use std::net::{Net, TcpListener, TcpStream};
 use std::rt::Clock;
-use std::sync::Arc;
+use std::sync::{Arc, Wait};
 use std::thread;
 use std::time::Duration;
 
@@ -47,9 +48,11 @@ pub struct NetGates<'a, D: Disk, W: Write, R: Drop> {
     listener: Option<TcpListener>,
     disk: Option<D>,
     settings: Settings,
+    error: StandardError<R>,
     /// How many clients are still to be served; where that has no limit, more than come.
     sessions: u64,
     seats: Seats,
+    shortages: Arc<Shortages>,
     /// Where an operator may ask for an end.
     service: Service,
     /// Whose servers have the numbers by which their legs are counted.
@@ -67,13 +70,13 @@ pub(crate) fn passes(kind: ErrorKind) -> bool {
     kind != ErrorKind::InvalidInput && kind != ErrorKind::Unsupported
 }
 
-impl<'a, D: Disk, W: Write, R: Clock + Eprint + Copy + Drop> NetGates<'a, D, W, R> {
+impl<'a, D: Disk, W: Write, R: Clock + Eprint + Wait + Copy + Drop> NetGates<'a, D, W, R> {
     pub fn new(
-        rt: R,
         alloc: Global,
         entrance: Entrance,
         disk: D,
         settings: Settings,
+        error: StandardError<R>,
         out: &'a mut W,
     ) -> Result<NetGates<'a, D, W, R>, AllocError> {
         let sessions = match settings.sessions {
@@ -81,19 +84,22 @@ impl<'a, D: Disk, W: Write, R: Clock + Eprint + Copy + Drop> NetGates<'a, D, W, 
             None => u64::MAX,
         };
         let seats = Seats::new(alloc, settings.max_clients)?;
+        let shortages = Arc::new(alloc, Shortages::new())?;
         let Entrance {
             listener,
             service,
             accepted,
         } = entrance;
         Ok(NetGates {
-            rt,
+            rt: error.rt,
             alloc,
             listener: Some(listener),
             disk: Some(disk),
             settings,
+            error,
             sessions,
             seats,
+            shortages,
             service,
             accepted,
             out,
@@ -101,8 +107,10 @@ impl<'a, D: Disk, W: Write, R: Clock + Eprint + Copy + Drop> NetGates<'a, D, W, 
         })
     }
 
-    fn note(&self, notice: Notice<'_>) {
-        StandardError { rt: self.rt }.note(notice);
+    fn note(&mut self, notice: Notice<'_>)
+        ensures { self.new.sessions ≡ self.old.sessions }
+    {
+        self.error.note(notice);
     }
 
     /// Notes whether clients can be accepted, where that is another answer than before.
@@ -203,6 +211,7 @@ where
     D: Disk + Send + 'static,
     W: Write,
     R: Net<Stream = TcpStream, Listener = TcpListener>
+        + Wait
         + Clock
         + Eprint
         + Copy
@@ -228,7 +237,7 @@ where
             timeout: self.settings.server_timeout,
             service: self.service.another(),
         };
-        let notices = StandardError { rt: self.rt };
+        let notices = self.error.another();
         let link = TcpLink::new(self.alloc, server, dial, notices)?;
         Ok(CountedLink::new(link, self.counted(server)))
     }
@@ -261,15 +270,20 @@ where
 
     fn watch(&mut self) -> Self::Watch {
         let watched = Watched {
-            error: StandardError { rt: self.rt },
+            error: self.error.another(),
             service: self.service.another(),
         };
-        SystemWatch::new(self.rt, watched)
+        let counters = Counters {
+            shortages: Arc::try_clone(&self.shortages).ok(),
+            tally: self.service.tally(),
+        };
+        SystemWatch::new(self.rt, watched, counters)
     }
 
     fn opened(&mut self, pending: usize) -> Result<(), ProxyFault>
         ensures { OnOk result ((address : List ℕ) × Appends (W.contents self.old.out.now) (W.contents self.new.out.now) (listening_line address pending)) }
     {
+        self.service.note_pending(pending as u64);
         match self.print_listening(pending) {
             Ok(()) => Ok(()),
             Err(NetFault::Memory) => Err(ProxyFault::Memory),

@@ -19,6 +19,7 @@ mod notice;
 mod run;
 mod seats;
 mod service;
+mod shortages;
 mod system_watch;
 
 pub use client::Client;
@@ -33,4 +34,5 @@ pub use notice::{Notice, Notices, StandardError, Watched};
 pub use run::{Listeners, SpoolFiles, listen, run_proxy, serve};
 pub use seats::Seat;
 pub use service::Service;
-pub use system_watch::SystemWatch;
+pub use shortages::Shortages;
+pub use system_watch::{Counters, SystemWatch};

@@ -11,6 +11,7 @@ use crate::service::Service;
 use mcv_check::Accepted;
 use mcv_fleet::start;
 use mcv_spool::{Disk, FileDisk};
+use mcv_tally::Tally;
 use mcv_words::{RunOptions, Settings};
 use std::alloc::Global;
 use std::io;
@@ -55,13 +56,17 @@ where
         + Send
         + 'static,
 {
+    let mut error = StandardError::new(rt, alloc)?;
     if settings.server_timeout.is_none() {
-        StandardError { rt }.note(Notice::Unlimited);
+        error.note(Notice::Unlimited);
     }
     let Listeners { clients, admin } = listeners;
     let service = match admin {
         Some(listener) => {
-            serve_operators(rt, alloc, &accepted, listener, clients.local_addr()?)?
+            let hubs = settings.hubs.count as usize;
+            let tally = Tally::new(alloc, accepted.routes().servers(), hubs)?;
+            let address = clients.local_addr()?;
+            serve_operators(rt, alloc, tally, listener, address, error.another())?
         }
         None => Service::unasked(),
     };
@@ -70,10 +75,10 @@ where
         service: service.another(),
         accepted: Arc::try_clone(&accepted)?,
     };
-    let gates = NetGates::new(rt, alloc, entrance, disk, settings, &mut *out)?;
+    let gates = NetGates::new(alloc, entrance, disk, settings, error.another(), &mut *out)?;
     let report = start(rt, alloc, accepted, gates)?;
     if service.is_ending() {
-        StandardError { rt }.note(Notice::Drained);
+        error.note(Notice::Drained);
     }
     let line = closed_line(alloc, report)?;
     print_line(out, line.as_slice())?;

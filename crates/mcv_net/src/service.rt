@@ -6,7 +6,7 @@ ghost use Rattle.mcv_tally.specs.Tally.{listed, tallied};
 ghost use Rattle.mcv_net.specs.Service.{earlier, nearer};
 
 use mcv_admin::Health;
-use mcv_metrics::{ClientCounts, Snapshot};
+use mcv_metrics::{ClientCounts, ServerCounts, Snapshot, SpoolCounts, WordCounts};
 use mcv_tally::Tally;
 use std::alloc::{AllocError, Global};
 use std::sync::Arc;
@@ -69,6 +69,15 @@ pub(crate) fn earlier(one: Option<Instant>, other: Option<Instant>) -> Option<In
     }
 }
 
+/// How many deletes of the spool these servers have performed.
+fn replayed_by(servers: &[ServerCounts]) -> u64 {
+    let mut replayed = 0u64;
+    for server in servers {
+        replayed = replayed.saturating_add(server.replayed);
+    }
+    replayed
+}
+
 impl State {
     /// Whether an end was asked for.
     fn is_ending(&self) -> bool {
@@ -94,14 +103,30 @@ impl State {
         }
     }
 
-    /// What has been counted up to this moment.
+    /// What has been counted of the spool, where so many deletes of it were performed.
+    fn spool(&self, replayed: u64) -> SpoolCounts {
+        let spooled = self.tally.spool.spooled.now();
+        let written = self.tally.spool.before.now().saturating_add(spooled);
+        SpoolCounts {
+            spooled,
+            pending: written.saturating_sub(replayed),
+            refusing: self.refusing.load(Ordering::SeqCst),
+        }
+    }
+
+    /// What has been counted up to this moment. Deletes that were performed come before those that were written, so that none
+    /// of the former is counted whose latter isn't.
     fn snapshot(&self, alloc: Global, now: Instant) -> Result<Snapshot, AllocError>
         ensures { IfOk result (λ s. (s.version ≡ VERSION) × (listed s.servers.items ≡ tallied (arc_value self.now.tally).servers.items)) }
     {
+        let servers = self.tally.servers(alloc)?;
+        let spool = self.spool(replayed_by(servers.as_slice()));
         Ok(Snapshot {
-            servers: self.tally.servers(alloc)?,
+            words: self.tally.words(alloc)?,
+            servers,
+            spool,
+            hubs: self.tally.hubs(alloc)?,
             clients: self.tally.clients.counts(),
-            refusing: self.refusing.load(Ordering::SeqCst),
             uptime: now.duration_since(self.since).as_secs(),
             version: VERSION,
         })
@@ -191,6 +216,13 @@ impl Service {
         }
     }
 
+    /// So many deletes are pending at the start.
+    pub fn note_pending(&self, pending: u64) {
+        if let Some(state) = &self.state {
+            state.tally.spool.before.set(pending);
+        }
+    }
+
     /// One client more was accepted.
     pub fn note_accepted(&self) {
         if let Some(state) = &self.state {
@@ -219,9 +251,15 @@ impl Service {
         match &self.state {
             Some(state) => state.snapshot(alloc, now),
             None => Ok(Snapshot {
+                words: WordCounts {
+                    calls: Vec::new(alloc),
+                    replies: Vec::new(alloc),
+                    refusals: Vec::new(alloc),
+                },
                 servers: Vec::new(alloc),
+                spool: SpoolCounts::default(),
+                hubs: Vec::new(alloc),
                 clients: ClientCounts::default(),
-                refusing: 0,
                 uptime: 0,
                 version: VERSION,
             }),

@@ -9,7 +9,8 @@ use mcv_base::{LegRequest, Op, Reply, Rest};
 use mcv_check::Accepted;
 use mcv_hub::{Capacity, Hub, HubLedger, Pass};
 use mcv_net::{CountedLink, CountedServer, Notice, TcpLink};
-use mcv_proxy::{Link, LinkFault};
+use mcv_proxy::{Link, LinkFault, Shortage};
+use mcv_spool::SpoolFault;
 use mcv_tally::Tally;
 use mcv_verdict::{Judgement, judge_input};
 use std::alloc::Global;
@@ -302,7 +303,7 @@ fn link_of<R: Wait + Abort + Copy + Drop>(
 
 /// What is counted of the server, of which there is one.
 fn tally_of(rt: &impl Abort, alloc: Global, accepted: &Accepted) -> Arc<Tally> {
-    let tally = Tally::new(alloc, accepted.routes().servers()).expect(rt, "memory");
+    let tally = Tally::new(alloc, accepted.routes().servers(), 1).expect(rt, "memory");
     Arc::new(alloc, tally).expect(rt, "memory")
 }
 
@@ -398,9 +399,22 @@ fn notices_are_lines(rt: HostRuntime) {
     check_notice(
         &rt,
         alloc,
-        Notice::Refusing,
-        "mcv: the spool refuses records",
+        Notice::Refusing(SpoolFault::Full),
+        "mcv: the spool refuses records: the spool is full",
     );
+    check_notice(
+        &rt,
+        alloc,
+        Notice::Full(Shortage::Legs, 1000),
+        "mcv: too many legs wait: 1000 refused",
+    );
+    check_notice(
+        &rt,
+        alloc,
+        Notice::Full(Shortage::Chapter, 1),
+        "mcv: the chapter is full: 1 refused",
+    );
+    check_notice(&rt, alloc, Notice::More(3), "mcv: 3 lines more in a second");
     check_notice(
         &rt,
         alloc,

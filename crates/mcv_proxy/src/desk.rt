@@ -5,12 +5,14 @@ ghost use Rattle.std.specs.Arc.{arc_value};
 ghost use Rattle.std.specs.List.{All, filter};
 ghost use Rattle.mcv_text.specs.Request.{request_value};
 ghost use Rattle.mcv_session.specs.Desk.{keys_of};
-ghost use Rattle.mcv_proxy.specs.Desk.{AreBegun, AreFor, AreTaken, Asks, HasMissing, HasOtherReply, IsFor, IsOnlyReplyFor, IsReplyFor, IsRouted, IsUnanswered, IsUnrouted, IsUntaken, WasAsked, WasBegun, WasMissing, WasRefused, WasTaken, desk_fault, with_receipt, word_at};
+ghost use Rattle.mcv_core.specs.View.{core_view};
+ghost use Rattle.mcv_hub.specs.Weights.{bytes_of};
+ghost use Rattle.mcv_proxy.specs.Desk.{AreBegun, AreFor, AreTaken, Asks, HasMissing, HasOtherReply, IsFor, IsOnlyReplyFor, IsReplyFor, IsRouted, IsUnanswered, IsUnrouted, IsUntaken, WasAsked, WasBegun, WasMissing, WasRefused, WasTaken, desk_fault, shortage_of, with_receipt, word_at};
 
 use crate::agenda::Agenda;
 use crate::errands::Errands;
 use crate::events;
-use crate::gates::{Link, Watch};
+use crate::gates::{Link, Load, Shortage, Watch};
 use crate::hub_routes::HubRoutes;
 use crate::lanes::{Lanes, Links};
 use mcv_base::{CallId, Moment, Op, Part, Request, Rest, key_words_have_one_reading, split_key};
@@ -27,6 +29,17 @@ use std::time::Duration;
 /// How long a call waits for the next chapter at most, in milliseconds.
 const PATIENCE: u64 = 1_000;
 
+/// What a session's requests have shown of a hub.
+#[derive(Clone, Copy, Debug, PartialEq, Eq)]
+pub struct Outlook {
+    /// The number of the chapter of the last reply.
+    pub chapter: u64,
+    /// How full the chapter was once the calls of the last request were begun.
+    pub load: Load,
+    /// What had no place for these.
+    pub shortage: Option<Shortage>,
+}
+
 /// What calls of a hub take: the ways to the servers, the pass and the seat of one session, its watch and its errands.
 #[derive(Drop)]
 struct Caller<'a, B: HubLedger, T: Ledger, L: Link, W: Watch, R: Wait + Clock> {
@@ -38,6 +51,8 @@ struct Caller<'a, B: HubLedger, T: Ledger, L: Link, W: Watch, R: Wait + Clock> {
     pass: Pass,
     seat: Seat<B, T>,
     watch: W,
+    /// How full the chapter was once the calls of the last request were begun.
+    load: Load,
     errands: Errands<'a, B, T, L>,
 }
 
@@ -54,6 +69,8 @@ struct Progress {
 pub struct HubDesk<'a, B: HubLedger, T: Ledger, L: Link, W: Watch, R: Wait + Clock> {
     caller: Caller<'a, B, T, L, W, R>,
     kept: Kept,
+    /// What had no place for the calls of the last request.
+    shortage: Option<Shortage>,
     routes: HubRoutes<'a, B>,
 }
 
@@ -116,6 +133,28 @@ pub fn fault_for(fault: CoreFault) -> DeskFault
         | CoreFault::Busy
         | CoreFault::ClockBack
         | CoreFault::NoSuchCall => DeskFault::Busy,
+    }
+}
+
+/// What has no place for a call that the core refuses so.
+pub fn shortage_of(fault: CoreFault) -> Option<Shortage>
+    ensures { result ≡ shortage_of fault }
+{
+    match fault {
+        CoreFault::LegsFull => Some(Shortage::Legs),
+        CoreFault::ChapterFull => Some(Shortage::Chapter),
+        _ => None,
+    }
+}
+
+/// How full a hub's chapter is.
+fn load_of<B: HubLedger, T: Ledger>(guard: &Guard<'_, B, T>) -> Load
+    ensures entries { result.entries ≡ (core_view guard.now.core).entries }
+    ensures bytes { result.bytes ≡ bytes_of guard.now.history }
+{
+    Load {
+        entries: guard.core().entries() as u64,
+        bytes: guard.bytes(),
     }
 }
 
@@ -470,6 +509,7 @@ impl<'a, B: HubLedger, T: Ledger, L: Link, W: Watch, R: Wait + Clock> Caller<'a,
         let (mut guard, begun) = begin_each(
             rt, alloc, hub, guard, seat, agenda, request, count, calls,
         );
+        self.load = load_of(&guard);
         self.errands
             .set_off(rt, alloc, lanes, &mut guard, calls.as_slice(), None);
         begun
@@ -505,6 +545,7 @@ impl<'a, B: HubLedger, T: Ledger, L: Link, W: Watch, R: Wait + Clock> Caller<'a,
         let seat = &mut self.seat;
         let agenda = &mut self.errands.agenda;
         let begun = events::begin_in_turn(alloc, agenda, &mut guard, seat, request, key);
+        self.load = load_of(&guard);
         self.errands.agenda.leave(guard.core());
         drop(guard);
         self.errands.agenda.finish();
@@ -620,9 +661,11 @@ impl<'a, B: HubLedger, T: Ledger, L: Link, W: Watch, R: Wait + Clock> HubDesk<'a
                 pass,
                 seat,
                 watch,
+                load: Load::default(),
                 errands: Errands::new(alloc, hub),
             },
             kept: Kept::new(alloc),
+            shortage: None,
             routes: HubRoutes::of(hub),
         }
     }
@@ -699,9 +742,16 @@ impl<'a, B: HubLedger, T: Ledger, L: Link, W: Watch, R: Wait + Clock> Desk
             mut taken,
             parts,
         } = room;
-        match self.take_replies(request, &mut calls, &mut taken) {
-            Ok(()) => Ok(into_parts(taken, parts)),
-            Err(fault) => Err(fault_for(fault)),
+        let outcome = self.take_replies(request, &mut calls, &mut taken);
+        match outcome {
+            Ok(()) => {
+                self.shortage = None;
+                Ok(into_parts(taken, parts))
+            }
+            Err(fault) => {
+                self.shortage = shortage_of(fault);
+                Err(fault_for(fault))
+            }
         }
     }
 }
@@ -720,6 +770,15 @@ impl<'a, B: HubLedger, T: Ledger, L: Link, R: Wait + Clock> HubDesk<'a, B, T, L,
     {
         self.caller.watch = moment;
         self.ask(request)
+    }
+
+    /// What the requests up to now have shown of the hub.
+    pub fn outlook(&self) -> Outlook {
+        Outlook {
+            chapter: self.kept.chapter,
+            load: self.caller.load,
+            shortage: self.shortage,
+        }
     }
 
     /// Waits until calls may begin, where the hub's next chapter is due (`Hub::enter`): before those of `begin_for`, which don't wait

@@ -1,4 +1,4 @@
-//! A number that only grows.
+//! Numbers that threads change.
 
 use std::sync::atomic::{AtomicU64, Ordering};
 
@@ -22,6 +22,31 @@ impl Count {
     }
 
     /// How often up to now.
+    pub fn now(&self) -> u64 {
+        self.number.load(Ordering::SeqCst)
+    }
+}
+
+/// A number that threads set.
+#[derive(Drop)]
+pub struct Level {
+    number: AtomicU64,
+}
+
+impl Level {
+    /// 0 up to now.
+    pub fn new() -> Level {
+        Level {
+            number: AtomicU64::new(0),
+        }
+    }
+
+    /// It is this from now on.
+    pub fn set(&self, number: u64) {
+        self.number.store(number, Ordering::SeqCst);
+    }
+
+    /// What it was set to last.
     pub fn now(&self) -> u64 {
         self.number.load(Ordering::SeqCst)
     }

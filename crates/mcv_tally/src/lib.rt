@@ -6,6 +6,8 @@
 
 mod count;
 mod tally;
+mod words;
 
-pub use count::Count;
-pub use tally::{ClientTally, ServerTally, Tally};
+pub use count::{Count, Level};
+pub use tally::{ClientTally, HubTally, ServerTally, SpoolTally, Tally};
+pub use words::{WordTally, cause_word, reply_word};

@@ -1,13 +1,18 @@
 //! The numbers of a proxy.
 
-ghost use Rattle.std.specs.Prelude.{◌≡◌, ◌<◌, IfOk, Some, length, slice_get, string_bytes};
+ghost use Rattle.std.specs.Prelude.{◌≡◌, ◌<◌, IfOk, Some, length, map, slice_get, string_bytes, vec_len};
+ghost use Rattle.std.specs.List.{range_with_len};
 ghost use Rattle.std.specs.Option.{option_map};
 ghost use Rattle.mcv_tally.specs.Tally.{listed, tallied};
+ghost use Rattle.mcv_tally.specs.Words.{causes, counted_words, operations, outcomes, tallied_words};
 
-use crate::count::Count;
-use mcv_base::ServerId;
-use mcv_metrics::{ClientCounts, ServerCounts};
+use crate::count::{Count, Level};
+use crate::words;
+use crate::words::{CAUSES, OPERATIONS, OUTCOMES, WordTally, cause_word, reply_word};
+use mcv_base::{Op, Part, ServerId};
+use mcv_metrics::{ClientCounts, HubCounts, ServerCounts, WordCounts};
 use mcv_pools::Servers;
+use mcv_session::DeskFault;
 use std::alloc::{AllocError, Global};
 
 /// What is counted of one server.
@@ -23,6 +28,28 @@ pub struct ServerTally {
     pub marked: Count,
     /// How often it answered such a hub again.
     pub unmarked: Count,
+    /// Deletes of the spool that it has performed.
+    pub replayed: Count,
+}
+
+/// What is counted of the spool.
+#[derive(Drop)]
+pub struct SpoolTally {
+    /// Deletes that were pending at the start.
+    pub before: Level,
+    /// Deletes that were written into it since.
+    pub spooled: Count,
+}
+
+/// What is known of a hub.
+#[derive(Drop)]
+pub struct HubTally {
+    /// The entries that its chapter has or may get.
+    pub entries: Level,
+    /// The bytes that it holds.
+    pub bytes: Level,
+    /// How many chapters of it have ended.
+    pub turned: Level,
 }
 
 /// What is counted of clients.
@@ -37,8 +64,17 @@ pub struct ClientTally {
 /// What is counted while a proxy runs.
 #[derive(Drop)]
 pub struct Tally {
+    /// Calls that were answered, by operation.
+    pub calls: Vec<WordTally>,
+    /// Replies to these, by outcome.
+    pub replies: Vec<WordTally>,
+    /// Requests that were refused, by cause.
+    pub refusals: Vec<WordTally>,
     /// In the order of the servers' numbers.
     pub servers: Vec<ServerTally>,
+    pub spool: SpoolTally,
+    /// In the order of the hubs' numbers.
+    pub hubs: Vec<HubTally>,
     pub clients: ClientTally,
 }
 
@@ -59,6 +95,7 @@ impl ServerTally {
             lost: Count::new(),
             marked: Count::new(),
             unmarked: Count::new(),
+            replayed: Count::new(),
         }
     }
 
@@ -74,7 +111,39 @@ impl ServerTally {
             sent: self.sent.now(),
             lost,
             marked: left(&self.marked, &self.unmarked),
+            replayed: self.replayed.now(),
         })
+    }
+}
+
+impl SpoolTally {
+    fn new() -> SpoolTally {
+        SpoolTally {
+            before: Level::new(),
+            spooled: Count::new(),
+        }
+    }
+}
+
+impl HubTally {
+    fn new() -> HubTally {
+        HubTally {
+            entries: Level::new(),
+            bytes: Level::new(),
+            turned: Level::new(),
+        }
+    }
+
+    /// What is known of the hub of this number.
+    fn counts(&self, hub: u64) -> HubCounts
+        ensures { result.hub ≡ hub }
+    {
+        HubCounts {
+            hub,
+            entries: self.entries.now(),
+            bytes: self.bytes.now(),
+            turned: self.turned.now(),
+        }
     }
 }
 
@@ -123,14 +192,61 @@ fn tallies_of(alloc: Global, servers: &Servers) -> Result<Vec<ServerTally>, Allo
     Ok(tallies)
 }
 
+/// Nothing yet, of so many hubs.
+fn hubs_of(alloc: Global, count: usize) -> Result<Vec<HubTally>, AllocError>
+    ensures { IfOk result (λ hubs. vec_len hubs ≡ count) }
+{
+    let mut hubs = Vec::new(alloc);
+    for _hub in 0..count {
+        hubs.push(HubTally::new())?;
+    }
+    Ok(hubs)
+}
+
 impl Tally {
-    /// Nothing yet, of these servers and of no clients.
-    pub fn new(alloc: Global, servers: &Servers) -> Result<Tally, AllocError>
-        ensures { IfOk result (λ tally. tallied tally.servers.items ≡ servers.now) }
+    /// Nothing yet, of these servers, of so many hubs and of no clients.
+    pub fn new(alloc: Global, servers: &Servers, hubs: usize) -> Result<Tally, AllocError>
+        ensures calls { IfOk result (λ tally. tallied_words tally.calls.items ≡ operations) }
+        ensures replies { IfOk result (λ tally. tallied_words tally.replies.items ≡ outcomes) }
+        ensures refusals { IfOk result (λ tally. tallied_words tally.refusals.items ≡ causes) }
+        ensures servers { IfOk result (λ tally. tallied tally.servers.items ≡ servers.now) }
+        ensures hubs { IfOk result (λ tally. vec_len tally.hubs ≡ hubs) }
     {
         Ok(Tally {
+            calls: words::tallies_of(alloc, &OPERATIONS)?,
+            replies: words::tallies_of(alloc, &OUTCOMES)?,
+            refusals: words::tallies_of(alloc, &CAUSES)?,
             servers: tallies_of(alloc, servers)?,
+            spool: SpoolTally::new(),
+            hubs: hubs_of(alloc, hubs)?,
             clients: ClientTally::new(),
+        })
+    }
+
+    /// Counts what a request for this operation came to: a call and its reply for each key, or a refusal.
+    pub fn note_answer(&self, op: Op, answer: &Result<Vec<Part>, DeskFault>) {
+        match answer {
+            Ok(replies) => {
+                for reply in replies {
+                    words::count_word(self.calls.as_slice(), op.name());
+                    words::count_word(self.replies.as_slice(), reply_word(reply));
+                }
+            }
+            Err(fault) => words::count_word(self.refusals.as_slice(), cause_word(*fault)),
+        }
+    }
+
+    /// What was counted by words up to now. Replies come first: each was one of a call that is counted.
+    pub fn words(&self, alloc: Global) -> Result<WordCounts, AllocError>
+        ensures calls { IfOk result (λ counts. counted_words counts.calls.items ≡ tallied_words self.now.calls.items) }
+        ensures replies { IfOk result (λ counts. counted_words counts.replies.items ≡ tallied_words self.now.replies.items) }
+        ensures refusals { IfOk result (λ counts. counted_words counts.refusals.items ≡ tallied_words self.now.refusals.items) }
+    {
+        let replies = words::counts_of(alloc, self.replies.as_slice())?;
+        Ok(WordCounts {
+            calls: words::counts_of(alloc, self.calls.as_slice())?,
+            replies,
+            refusals: words::counts_of(alloc, self.refusals.as_slice())?,
         })
     }
 
@@ -151,5 +267,23 @@ impl Tally {
             counts.push(server.counts(alloc)?)?;
         }
         Ok(counts)
+    }
+
+    /// What is known of each hub, in the order of their numbers.
+    pub fn hubs(&self, alloc: Global) -> Result<Vec<HubCounts>, AllocError>
+        ensures { IfOk result (λ counts. map (λ c. c.hub) counts.items ≡ range_with_len 0 (vec_len self.now.hubs)) }
+    {
+        let mut counts = Vec::new(alloc);
+        for (number, hub) in self.hubs.iter().enumerate() {
+            counts.push(hub.counts(number as u64))?;
+        }
+        Ok(counts)
+    }
+
+    /// That of the hub of this number.
+    pub fn hub(&self, number: usize) -> Option<&HubTally>
+        ensures { option_map (λ tally. tally.now) result ≡ slice_get self.now.hubs.items number }
+    {
+        self.hubs.get(number)
     }
 }

@@ -94,6 +94,63 @@ def a_server_that_is_marked_is_shown(machine):
         wait_for(lambda: legs(admin, server)[2] == 0, "the server isn't marked any more")
 
 
+def sums(admin, name, label):
+    """The samples of a family that aren't 0, by the values of its label."""
+    begin = '%s{%s="' % (name, label)
+    return {sample[len(begin) : -2]: value for sample, value in shown(admin).items() if sample.startswith(begin) and value}
+
+
+@case()
+def calls_are_counted_by_what_they_ask_and_get(machine):
+    admin = admin_address()
+    mcv = machine.mcv(one_pool(machine.servers(2)), admin=admin, hubs=2)
+    with mcv.client() as client:
+        client.ask(stored(b"a", b"1"), b"STORED\r\n")
+        client.ask(b"get a b c\r\n", b"VALUE a 0 1\r\n1\r\nEND\r\n")
+        client.ask(b"incr a 2\r\n", b"3\r\n")
+        client.ask(b"delete a\r\ndelete a\r\n", b"DELETED\r\nNOT_FOUND\r\n")
+        client.ask(b"get /other/pool/a\r\n", b"SERVER_ERROR no route\r\n")
+    expect(sums(admin, "mcv_calls_total", "operation"), {"set": 1, "get": 3, "incr": 1, "delete": 2})
+    expect(sums(admin, "mcv_replies_total", "outcome"), {"stored": 1, "hit": 1, "miss": 2, "number": 1, "deleted": 1, "not_found": 1})
+    expect(sums(admin, "mcv_refusals_total", "cause"), {"no_route": 1})
+
+
+@case()
+def records_are_counted_until_they_are_performed(machine):
+    admin, port, spool = admin_address(), free_port(), machine.path("mcv.spool")
+    server = "127.0.0.1:%d" % port
+    config = one_pool([server])
+    first = machine.mcv(config, spool=spool)
+    with first.client() as client:
+        client.ask(b"delete a\r\n", b"NOT_FOUND\r\n")
+    first.kill()
+    machine.mcv(config, spool=spool, admin=admin)
+
+    def records():
+        every = shown(admin)
+        names = ("mcv_records_pending", "mcv_records_spooled_total", 'mcv_records_replayed_total{server="%s"}' % server)
+        return tuple(every[name] for name in names)
+
+    expect(records(), (1, 0, 0))
+    machine.memcached(port=port)
+    wait_for(lambda: records() == (0, 0, 1), "the delete is performed")
+
+
+@case()
+def the_chapters_of_hubs_are_shown(machine):
+    admin = admin_address()
+    mcv = machine.mcv(one_pool(machine.servers(1)), admin=admin, hubs=3)
+    hubs = {str(n) for n in range(3)}
+    every = [sample for sample in shown(admin) if sample.startswith("mcv_chapter_entries")]
+    expect(sorted(every), ['mcv_chapter_entries{hub="%d"}' % n for n in range(3)])
+    with mcv.client() as client:
+        for n in range(100):
+            client.ask(b"get k%d\r\n" % n, b"END\r\n")
+    expect(set(sums(admin, "mcv_chapter_entries", "hub")), hubs, "hubs that were asked")
+    expect(set(sums(admin, "mcv_chapter_bytes", "hub")), hubs, "hubs that were asked")
+    expect(sums(admin, "mcv_chapters_turned_total", "hub"), {})
+
+
 @case()
 def clients_are_counted(machine):
     admin = admin_address()
