@@ -541,6 +541,22 @@ impl<'a, F: HubNames, G: Names, L: Link, W: Watch, R: Wait + Clock> HubsDesk<'a,
             }
         }
     }
+
+    /// Answers a request at this moment, and notes what it has shown of its hub.
+    fn answer(&mut self, moment: Moment, request: &Arc<Request>) -> Result<Vec<Part>, DeskFault>
+        ensures asks { AsksHubs F.opened_of self.old.choice.now (request_value (arc_value request.now)) (answer_value result) }
+        ensures each { HasOneEach (request_value (arc_value request.now)) (answer_value result) }
+    {
+        let words: &Request = request;
+        match one_hub(self.choice, words) {
+            Some(hub) => {
+                let answer = self.ask_at(hub, moment, request);
+                self.note_at(hub);
+                answer
+            }
+            None => self.ask_each(moment, words),
+        }
+    }
 }
 
 impl<'a, F: HubNames, G: Names, L: Link, W: Watch, R: Wait + Clock> Desk
@@ -551,15 +567,8 @@ impl<'a, F: HubNames, G: Names, L: Link, W: Watch, R: Wait + Clock> Desk
 
     fn ask(&mut self, request: &Arc<Request>) -> Result<Vec<Part>, DeskFault> {
         let moment = self.watch.moment();
+        let answer = self.answer(moment, request);
         let words: &Request = request;
-        let answer = match one_hub(self.choice, words) {
-            Some(hub) => {
-                let answer = self.ask_at(hub, moment, request);
-                self.note_at(hub);
-                answer
-            }
-            None => self.ask_each(moment, words),
-        };
         self.watch.note_answer(words, &answer);
         answer
     }

@@ -742,8 +742,7 @@ impl<'a, B: HubLedger, T: Ledger, L: Link, W: Watch, R: Wait + Clock> Desk
             mut taken,
             parts,
         } = room;
-        let outcome = self.take_replies(request, &mut calls, &mut taken);
-        match outcome {
+        match self.take_replies(request, &mut calls, &mut taken) {
             Ok(()) => {
                 self.shortage = None;
                 Ok(into_parts(taken, parts))
