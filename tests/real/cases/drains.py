@@ -199,7 +199,7 @@ def forty_drains_lose_no_answered_delete(machine):
     config = deletes_asynchronously([server.text for server in servers])
     every = []
     for turn in range(DRAINS):
-        mcv = machine.mcv(config, spool=spool, admin=admin, server_timeout=5000)
+        mcv = machine.mcv(config, spool=spool, admin=admin, server_timeout=5000, hubs=1 + turn % 3)
         acknowledged = []
         threads = [threading.Thread(target=deleting, args=(mcv, b"%d.%d" % (turn, n), acknowledged)) for n in range(CLIENTS)]
         for thread in threads:
