@@ -1,6 +1,9 @@
--- The texts of servers, one after another.
-use Rattle.std.proofs.Common.{◌≡◌, ◌∙◌, ℕ, ◌+◌, ◌<◌, None, Some, List, [], ◌∷◌, ◌++◌, length, get_or, take, ap, sym}
-use Rattle.std.proofs.lemmas.List.{map-append, take_more}
+-- The texts of servers and the numbers of hubs, one after another.
+use Rattle.std.proofs.Common.{◌≡◌, ◌∙◌, ℕ, ◌+◌, ◌<◌, None, Some, List, [], ◌∷◌, ◌++◌, length, get_or, map, take, ap, refl, sym}
+use Rattle.std.proofs.lemmas.List.{map-append, map-id, take_more}
+use Rattle.std.proofs.lemmas.List.FromFn.{map-range_with_len_more}
+use Rattle.std.specs.List.{range_with_len}
+use Rattle.mcv_metrics.specs.declared.snapshot.HubCounts.{HubCounts}
 use Rattle.std.proofs.lemmas.Option.{get_or_from_slice_get, slice_get-get_or, slice_get_within}
 use Rattle.std.specs.Prelude.{slice_get, string_bytes}
 use Rattle.mcv_metrics.specs.declared.snapshot.ServerCounts.{ServerCounts}
@@ -24,3 +27,12 @@ pub listed_more : (tallies : List ServerTally) (i : ℕ) (t : ServerTally) (coun
 listed_more tallies i t counts c lt is same before =
     map-append (λ (c : ServerCounts). string_bytes c.server) counts (c ∷ []) ∙ (λ j. before j ++ (same ∙ ap (λ (x : ServerTally). string_bytes x.server) is) j ∷ [])
     ∙ sym (ap tallied (take_more tallies i t lt) ∙ map-append (λ (t : ServerTally). string_bytes t.server) (take i tallies) (get_or tallies i t ∷ []))
+
+-- one number more
+range_more : (n : ℕ) → range_with_len 0 (n + 1) ≡ range_with_len 0 n ++ n ∷ []
+range_more n =
+    sym (map-id (range_with_len 0 (n + 1))) ∙ (map-range_with_len_more (λ (k : ℕ). k) 0 n n refl ∙ ap (λ (xs : List ℕ). xs ++ n ∷ []) (map-id (range_with_len 0 n)))
+
+-- something is said of one hub more
+pub numbered_more : (counts : List HubCounts) (c : HubCounts) (n : ℕ) → c.hub ≡ n → map (λ (c : HubCounts). c.hub) counts ≡ range_with_len 0 n → map (λ (c : HubCounts). c.hub) (counts ++ c ∷ []) ≡ range_with_len 0 (n + 1)
+numbered_more counts c n is before = map-append (λ (c : HubCounts). c.hub) counts (c ∷ []) ∙ ((λ j. before j ++ is j ∷ []) ∙ sym (range_more n))

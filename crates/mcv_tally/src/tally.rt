@@ -197,7 +197,7 @@ fn hubs_of(alloc: Global, count: usize) -> Result<Vec<HubTally>, AllocError>
     ensures { IfOk result (λ hubs. vec_len hubs ≡ count) }
 {
     let mut hubs = Vec::new(alloc);
-    for _hub in 0..count {
+    for _number in 0..count {
         hubs.push(HubTally::new())?;
     }
     Ok(hubs)
@@ -270,6 +270,7 @@ impl Tally {
     }
 
     /// What is known of each hub, in the order of their numbers.
+    #[tactic(auto, using(crate::proofs::Texts::numbered_more))]
     pub fn hubs(&self, alloc: Global) -> Result<Vec<HubCounts>, AllocError>
         ensures { IfOk result (λ counts. map (λ c. c.hub) counts.items ≡ range_with_len 0 (vec_len self.now.hubs)) }
     {
