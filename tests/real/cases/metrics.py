@@ -4,9 +4,9 @@ import http.client
 import subprocess
 
 from cases.crowds import TOO_MANY
-from cases.drains import admin_address
+from cases.drains import admin_address, deletes_asynchronously
 from cases.servers import LIMITED
-from fakes import DROP, PERFORM, Fake
+from fakes import DROP, PERFORM, SILENCE, Fake
 from parts import LIMIT, address_of, case, expect, free_port, one_pool, stored, wait_for
 
 TYPE = "text/plain; version=0.0.4; charset=utf-8"
@@ -149,6 +149,24 @@ def the_chapters_of_hubs_are_shown(machine):
     expect(set(sums(admin, "mcv_chapter_entries", "hub")), hubs, "hubs that were asked")
     expect(set(sums(admin, "mcv_chapter_bytes", "hub")), hubs, "hubs that were asked")
     expect(sums(admin, "mcv_chapters_turned_total", "hub"), {})
+
+
+@case(120)
+def requests_without_a_place_are_refused_and_said(machine):
+    """A server never answers, and nobody waits for it: 65,536 deletes wait, and one is under way or on its way into that."""
+    admin, server = admin_address(), machine.fake(Fake(lambda: SILENCE))
+    mcv = machine.mcv(deletes_asynchronously([server.text]), admin=admin, server_timeout=100000)
+    answers = []
+    with mcv.client() as client:
+        for n in range(66):
+            client.send(b"".join(b"delete k%d.%d\r\n" % (n, k) for k in range(1000)))
+            answers += [client.line() for _ in range(1000)]
+        taken = answers.index(b"SERVER_ERROR busy\r\n")
+        expect(set(answers[:taken]), {b"NOT_FOUND\r\n"})
+        expect(set(answers[taken:]), {b"SERVER_ERROR busy\r\n"})
+        expect(taken in (65536, 65537), True, "%d deletes" % taken)
+        expect(sums(admin, "mcv_refusals_total", "cause"), {"busy": len(answers) - taken})
+        expect(mcv.error_text(), b"mcv: too many legs wait: 1 refused\n")
 
 
 @case()
