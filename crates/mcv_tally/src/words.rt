@@ -115,7 +115,7 @@ pub(crate) fn tallies_of(alloc: Global, words: &[&str]) -> Result<Vec<WordTally>
     let mut tallies = Vec::new(alloc);
     for word in words {
         tallies.push(WordTally {
-            word: String::from_str(alloc, word)?,
+            word: String::from_str(alloc, *word)?,
             count: Count::new(),
         })?;
     }
