@@ -142,7 +142,11 @@ fn next_line<R: Wait>(rt: &R, pace: &Mutex<Pace>, second: u64) -> (u64, bool) {
 
 impl<R: Eprint + Clock + Wait + Copy + Drop> Notices for StandardError<R> {
     fn note(&mut self, notice: Notice<'_>) {
-        let (Some(pace), Some(second)) = (&self.pace, self.second()) else {
+        let Some(pace) = &self.pace else {
+            self.show(notice);
+            return;
+        };
+        let Some(second) = self.second() else {
             self.show(notice);
             return;
         };
@@ -154,7 +158,10 @@ impl<R: Eprint + Clock + Wait + Copy + Drop> Notices for StandardError<R> {
     }
 
     fn catch_up(&mut self) {
-        let (Some(pace), Some(second)) = (&self.pace, self.second()) else {
+        let Some(pace) = &self.pace else {
+            return;
+        };
+        let Some(second) = self.second() else {
             return;
         };
         let held = pace.lock(&self.rt).enter(second);

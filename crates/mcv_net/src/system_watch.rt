@@ -95,7 +95,10 @@ impl<R: Clock + Drop, N: Notices> Watch for SystemWatch<R, N> {
     }
 
     fn note_answer(&mut self, request: &Request, answer: &Result<Vec<Part>, DeskFault>) {
-        if let (Some(tally), Request::Ask(ask)) = (&self.counters.tally, request) {
+        let Some(tally) = &self.counters.tally else {
+            return;
+        };
+        if let Request::Ask(ask) = request {
             tally.note_answer(ask.op, answer);
         }
     }

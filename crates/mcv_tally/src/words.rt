@@ -124,8 +124,11 @@ pub(crate) fn tallies_of(alloc: Global, words: &[&str]) -> Result<Vec<WordTally>
 
 /// Counts a word once more, if it is one of these.
 pub(crate) fn count_word(tallies: &[WordTally], word: &str) {
-    if let Some(tally) = tallies.iter().find(|tally| tally.word.as_str() == word) {
-        tally.count.more();
+    for tally in tallies {
+        if tally.word.as_str() == word {
+            tally.count.more();
+            return;
+        }
     }
 }
 
