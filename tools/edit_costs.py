@@ -1,6 +1,6 @@
 import os,time,json,re,glob
 tick=os.sysconf('SC_CLK_TCK'); seen={}
-G='/work/h/gate'
+G='/work/gate/cand'
 edits={}
 for f in glob.glob(G+'/crates/*/must-fail/*.edit'):
     crate=f.split('/')[-3]; t=open(f).read().splitlines()
@@ -28,4 +28,4 @@ while True:
             seen[k][2]=max(seen[k][2],cpu)
         except Exception: continue
     json.dump(seen,open('/work/h/edit_costs.json.tmp','w')); os.rename('/work/h/edit_costs.json.tmp','/work/h/edit_costs.json')
-    time.sleep(5)
+    time.sleep(6)

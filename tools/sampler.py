@@ -22,4 +22,4 @@ while True:
         e=[os.path.basename(args[0]),mode,name,cwd,cpu,time.time(),rss if not o else max(rss,o[6]), o[7] if o else time.time()]
         seen[k]=e
     json.dump(seen,open('/work/h/samples.json.tmp','w')); os.rename('/work/h/samples.json.tmp','/work/h/samples.json')
-    time.sleep(5)
+    time.sleep(8)
