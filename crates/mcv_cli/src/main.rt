@@ -4,8 +4,7 @@
 
 use mcv_check::Accepted;
 use mcv_command::{
-    Ending, Proxy, Stop, SystemFiles, exit_status, given_words, reads_configuration, run_words,
-    second_line,
+    Ending, Proxy, Stop, SystemFiles, exit_status, given_words, run_words, says_more, second_line,
 };
 use mcv_input::{RunFault, read_at_most};
 use mcv_net::{NetFault, SpoolFiles, serve};
@@ -115,11 +114,11 @@ fn read<R: Env + AllocGlobal + Input + Print + Files<File = File>>(
     let words = given_words(rt)?;
     let texts: Vec<&str> = words.iter().map(|word| word.as_str()).collect(alloc)?;
     let texts = texts.as_slice();
-    let is_whole = match read_words(alloc, texts) {
-        Ok(job) => reads_configuration(&job),
+    let is_detailed = match read_words(alloc, texts) {
+        Ok(job) => says_more(&job),
         Err(_) => false,
     };
-    if !is_whole {
+    if !is_detailed {
         let files = SystemFiles { system: rt };
         let ended = run_words(
             alloc,

@@ -1,5 +1,5 @@
 -- What the program did, by what the words asked for.
-use Rattle.std.proofs.Common.{◌≡◌, ◌≢◌, ◌∙◌, ap, inl, inr, refl, ◌+◌, ◌<◌, ◌≤◌, ℕ, List, length, take, Option, None, Some, Result, Err, subst, sym, arith}
+use Rattle.std.proofs.Common.{◌≡◌, ◌≢◌, ◌∙◌, ap, inl, inr, refl, ◌+◌, ◌<◌, ◌≤◌, ℕ, Bool, true, false, List, length, take, Option, None, Some, Result, Err, subst, sym, arith}
 use Rattle.std.specs.Prelude.{IfErr, IfSome, MatchOption}
 use Rattle.std.proofs.lemmas.List.{length-take}
 use Rattle.std.proofs.lemmas.Option.{IfSome_then}
@@ -14,6 +14,7 @@ use Rattle.mcv_input.specs.declared.fault.RunFault.TheVariants.{Line, NoRoute, C
 use Rattle.mcv_mend.specs.Mending.{IsMendFault}
 use Rattle.mcv_mend.specs.declared.fault.MendFault.{MendFault}
 use Rattle.mcv_mend.specs.declared.fault.MendFault.TheVariants as mend_faults
+use Rattle.mcv_show.specs.Explained.{IsExplainedOn, IsVerdictAs, IsVerdictIf}
 use Rattle.mcv_verdict.specs.Fault as check
 use Rattle.mcv_verdict.specs.Verdict.{IsVerdictOn}
 use Rattle.mcv_verdict.specs.declared.verdict.Verdict.{Verdict}
@@ -24,17 +25,17 @@ use Rattle.mcv_command.specs.declared.stop.Stop.TheVariants.{BadLine, Mended, No
 use Rattle.mcv_command.specs.Program.{Held, IfGiven, IsJudgingFault, IsListingStop, IsMendingStop, IsStop}
 use Rattle.mcv_command.specs.Stop.{of_records, stop_of_mending}
 use Rattle.mcv_words.specs.Words.{AsksCheck, AsksMend, AsksRun, AsksSpool, RunOrder, SpoolOrder}
-use Rattle.mcv_words.specs.declared.options.Window as asked
+use Rattle.mcv_words.specs.declared.options.CheckOptions.{CheckOptions}
 
 -- ---- the faults of a verdict, as the program's
 
-pub judging_stop : (words : List Text) (held : Held) (input : Option Text) (cert : Option Text) (window : asked.Window) (stop : Stop) → AsksCheck words cert window
-    → IsJudgingFault held cert window.seconds input stop → IsStop words held input stop
-judging_stop words held input cert window BadLine asks holds = absurd holds
-judging_stop words held input cert window (Damaged slot) asks holds = absurd holds
-judging_stop words held input cert window (Run fault) asks holds = inr (inr (inl (cert, window, asks, holds)))
-judging_stop words held input cert window (Mended fault) asks holds = absurd holds
-judging_stop words held input cert window NoChange asks holds = absurd holds
+pub judging_stop : (words : List Text) (held : Held) (input : Option Text) (cert : Option Text) (options : CheckOptions) (stop : Stop) → AsksCheck words cert options
+    → IsJudgingFault held cert options.window.seconds input stop → IsStop words held input stop
+judging_stop words held input cert options BadLine asks holds = absurd holds
+judging_stop words held input cert options (Damaged slot) asks holds = absurd holds
+judging_stop words held input cert options (Run fault) asks holds = inr (inr (inl (cert, options, asks, holds)))
+judging_stop words held input cert options (Mended fault) asks holds = absurd holds
+judging_stop words held input cert options NoChange asks holds = absurd holds
 
 pub running_stop : (words : List Text) (held : Held) (input : Option Text) (order : RunOrder) (stop : Stop) → AsksRun words order
     → IsJudgingFault held None order.settings.window.seconds input stop → IsStop words held input stop
@@ -51,12 +52,12 @@ mending_fault input (mend_faults.Run fault) holds = holds
 mending_fault input (mend_faults.Limit fault) holds = holds
 mending_fault input mend_faults.GaveUp holds = holds
 
-pub mending_stop : (words : List Text) (held : Held) (input : Option Text) (stop : Stop) → AsksMend words → IsMendingStop input stop → IsStop words held input stop
-mending_stop words held input BadLine asks holds = absurd holds
-mending_stop words held input (Damaged slot) asks holds = absurd holds
-mending_stop words held input (Run fault) asks holds = inr (inr (inr (inl (asks, holds))))
-mending_stop words held input (Mended fault) asks holds = (asks, holds)
-mending_stop words held input NoChange asks holds = (asks, holds)
+pub mending_stop : (words : List Text) (held : Held) (input : Option Text) (patch : Bool) (stop : Stop) → AsksMend words patch → IsMendingStop input stop → IsStop words held input stop
+mending_stop words held input patch BadLine asks holds = absurd holds
+mending_stop words held input patch (Damaged slot) asks holds = absurd holds
+mending_stop words held input patch (Run fault) asks holds = inr (inr (inr (inl (patch, asks, holds))))
+mending_stop words held input patch (Mended fault) asks holds = (patch, asks, holds)
+mending_stop words held input patch NoChange asks holds = (patch, asks, holds)
 
 -- ---- a run's faults
 
@@ -132,10 +133,26 @@ says_all text first r is (reads w body s small short starts behind) =
     let same : first ≡ text = is ∙ whole read_limit text (subst (λ (xs : List ℕ). length xs < read_limit) is (omega arith)) in
     subst (λ (xs : List ℕ). Says xs s) same (reads w body s small short starts behind)
 
-pub verdict_by_all : (input : List ℕ) (window : ℕ) (text first : List ℕ) (verdict : Verdict) (written : List ℕ) → first ≡ take read_limit text
+verdict_by_all : (input : List ℕ) (window : ℕ) (text first : List ℕ) (verdict : Verdict) (written : List ℕ) → first ≡ take read_limit text
     → IsVerdictOn input window (Some first) verdict written → IsVerdictOn input window (Some text) verdict written
 verdict_by_all input window text first (Covered n) written is on = (on.0, on.1, (on.2.0, says_all text first _ is on.2.1, on.2.2, on.2.3, on.2.4))
 verdict_by_all input window text first Lost written is on = absurd on.2
+
+explained_by_all : (input : List ℕ) (window : ℕ) (text first : List ℕ) (verdict : Verdict) (written : List ℕ) → first ≡ take read_limit text
+    → IsExplainedOn input window (Some first) verdict written → IsExplainedOn input window (Some text) verdict written
+explained_by_all input window text first (Covered n) written is on =
+    let explained = on.4.2 in
+    (on.0, on.1, on.2, on.3, (on.4.0, on.4.1, (explained.0, explained.1, says_all text first _ is explained.2, explained.3, explained.4)))
+explained_by_all input window text first Lost written is on = absurd on.4.2
+
+-- the same as the options ask
+pub verdict_as_by_all : (options : CheckOptions) (input text first : List ℕ) (verdict : Verdict) (written : List ℕ) → first ≡ take read_limit text
+    → IsVerdictAs options input (Some first) verdict written → IsVerdictAs options input (Some text) verdict written
+verdict_as_by_all options input text first verdict written is on = go options.explain on
+  where
+    go : (explain : Bool) → IsVerdictIf explain input options.window.seconds (Some first) verdict written → IsVerdictIf explain input options.window.seconds (Some text) verdict written
+    go false here = verdict_by_all input options.window.seconds text first verdict written is here
+    go true here = explained_by_all input options.window.seconds text first verdict written is here
 
 pub fault_by_all : (input : List ℕ) (window : ℕ) (text first : List ℕ) (fault : RunFault) → first ≡ take read_limit text → check.IsRunFault input window (Some first) fault
     → check.IsRunFault input window (Some text) fault

@@ -1,5 +1,5 @@
 -- The line on standard error behind that of a fault of the configuration (own).
-use Rattle.std.specs.Prelude.{◌≡◌, Err, None, Ok, Option, Result, Some, Bool, false, true}
+use Rattle.std.specs.Prelude.{◌≡◌, Bool, Err, None, Ok, Option, Result, Some, false, not, true}
 use Rattle.std.specs.Str.Lossy.{utf8_lossy}
 use Rattle.clap.specs.Words.{Text}
 use Rattle.mcv_faults.specs.FaultLine.{IsDetailOf}
@@ -12,13 +12,13 @@ use Rattle.mcv_command.specs.declared.stop.Ending.{Ending}
 use Rattle.mcv_command.specs.declared.stop.Stop.{Stop}
 use Rattle.mcv_command.specs.declared.stop.Stop.TheVariants.{BadLine, Mended, NoChange, Run, Damaged}
 
--- the job is done on a configuration alone: `legs` has a request before it, and `spool` reads no input
-abbrev pub reads_configuration : Job → Bool
-reads_configuration (jobs.Legs at) = false
-reads_configuration (jobs.Check cert window) = true
-reads_configuration jobs.Mend = true
-reads_configuration (jobs.Run options) = true
-reads_configuration (jobs.Spool options) = false
+-- more is said of a fault where the job is done on a configuration alone (`legs` has a request before it, and `spool` reads no input), and `-q` isn't given
+abbrev pub says_more : Job → Bool
+says_more (jobs.Legs at) = false
+says_more (jobs.Check cert options) = not options.quiet
+says_more (jobs.Mend patch) = true
+says_more (jobs.Run options) = true
+says_more (jobs.Spool options) = false
 
 -- the fault of the configuration, where it is one
 abbrev pub config_fault : RunFault → Option ConfigFault

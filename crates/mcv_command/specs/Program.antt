@@ -1,5 +1,5 @@
 -- What the program does for the words of a command line.
-use Rattle.std.specs.Prelude.{◌≡◌, ◌⊎◌, ℕ, Bool, List, Option, Some, None, IfSome, MatchOption, codes, take, if◌then◌else◌, ⊤}
+use Rattle.std.specs.Prelude.{◌≡◌, ◌⊎◌, ℕ, Bool, List, Option, Some, None, IfSome, MatchOption, codes, take, if◌then◌else◌, ⊤, true, false}
 use Rattle.std.specs.Io.KnownBytes.{Appends}
 use Rattle.clap.specs.Words.{IsAmong, Text}
 use Rattle.clap.specs.declared.error.kind.ErrorKind.TheVariants.{DisplayHelp, DisplayVersion}
@@ -10,10 +10,12 @@ use Rattle.mcv_legs.specs.Fault as legs
 use Rattle.mcv_mend.specs.Mending.{IsMendFault, IsMendingOn}
 use Rattle.mcv_mend.specs.declared.fault.MendFault.TheVariants as mend_faults
 use Rattle.mcv_mend.specs.declared.fault.Mending.{Mending}
+use Rattle.mcv_mend_patch.specs.Patching.{IsPatchOn}
 use Rattle.mcv_records.specs.Text.{records_text, slot_lines}
 use Rattle.mcv_records.specs.declared.list.Shown.{Shown}
 use Rattle.mcv_records.specs.declared.list.Shown.TheVariants.{Pending, All}
 use Rattle.mcv_route.specs.Routes.{RoutesValue, within}
+use Rattle.mcv_show.specs.Explained.{IsVerdictAs}
 use Rattle.mcv_spool.specs.File.{damage, slots}
 use Rattle.mcv_symbolic.specs.CoveredRoutes.{AreCovered}
 use Rattle.mcv_verdict.specs.Fault as check
@@ -21,7 +23,7 @@ use Rattle.mcv_verdict.specs.Verdict.{IsVerdictOn}
 use Rattle.mcv_verdict.specs.declared.verdict.Verdict.{Verdict}
 use Rattle.mcv_verdict.specs.declared.verdict.Verdict.TheVariants as verdicts
 use Rattle.mcv_words.specs.Words.{AsksCheck, AsksMend, AsksRun, AsksSpool, IsJobOf, IsLineFault, RunOrder, SpoolOrder, faults}
-use Rattle.mcv_words.specs.declared.options.Window.{Window}
+use Rattle.mcv_words.specs.declared.options.CheckOptions.{CheckOptions}
 use Rattle.mcv_words.specs.declared.words.Job.TheVariants as jobs
 use Rattle.mcv_words.specs.declared.words.LineFault.TheVariants as line_fault
 use Rattle.mcv_command.specs.declared.stop.Ending.{Ending}
@@ -48,6 +50,12 @@ IsJudged held cert window input old new ending =
     (verdict : Verdict) × (text : Text) × IfSome input (λ bytes. IfGiven held cert (λ certificate. IsVerdictOn bytes window certificate verdict text))
     × Appends old new text × (ending ≡ ending_of verdict)
 
+-- the same, as the options ask
+abbrev pub IsJudgedAs : CheckOptions → Held → Option Text → (input old new : Option Text) → Ending → Type 0
+IsJudgedAs options held cert input old new ending =
+    (verdict : Verdict) × (text : Text) × IfSome input (λ bytes. IfGiven held cert (λ certificate. IsVerdictAs options bytes certificate verdict text))
+    × Appends old new text × (ending ≡ ending_of verdict)
+
 -- memory ran out, or a device failed; or the fault is in the input or in the certificate that is given
 abbrev pub IsJudgingFault : Held → Option Text → (window : ℕ) → (input : Option Text) → Stop → Type 0
 IsJudgingFault held cert window input BadLine = ⊥
@@ -59,6 +67,14 @@ IsJudgingFault held cert window input NoChange = ⊥
 -- what becomes of the input was written: the input with the legs that its deletes lack, or as it is where it is covered
 abbrev pub IsMended : (input old new : Option Text) → Ending → Type 0
 IsMended input old new ending = (mending : Mending) × (text : Text) × IfSome input (λ bytes. IsMendingOn bytes mending text) × Appends old new text × (ending ≡ Done)
+
+-- the patch that makes this of the input was written, the empty one where it is covered
+abbrev pub IsPatched : (input old new : Option Text) → Ending → Type 0
+IsPatched input old new ending = (mending : Mending) × (text : Text) × IfSome input (λ bytes. IsPatchOn bytes mending text) × Appends old new text × (ending ≡ Done)
+
+abbrev pub IsMendedAs : (patch : Bool) → (input old new : Option Text) → Ending → Type 0
+IsMendedAs true input old new ending = IsPatched input old new ending
+IsMendedAs false input old new ending = IsMended input old new ending
 
 -- why nothing is mended: memory ran out, a device failed, or the fault is in the input; or it can lose a delete, and its mended text is over a
 -- limit, or no change was found
@@ -116,14 +132,14 @@ abbrev pub IsShownFor : List Text → Text → Type 0
 IsShownFor words text = IsAmong DisplayHelp (faults words) ⊎ (IsAmong DisplayVersion (faults words) × (text ≡ version_line))
 
 -- help or the version was asked for and shown; or the words ask for legs at a moment, and what answers the input at that moment was written; or they
--- ask for a verdict, and it was written; or they ask for the input mended, and it was written; or they ask for a run, and the proxy served as
--- they ask, or the verdict was written by which it doesn't; or they ask for the records of a spool's file, and their text was written
+-- ask for a verdict, and it was written as they ask; or they ask for the input mended, and that or its patch was written; or they ask for a run, and the
+-- proxy served as they ask, or the verdict was written by which it doesn't; or they ask for the records of a spool's file, and their text was written
 abbrev pub IsDone : List Text → Held → Serves → (input old new : Option Text) → Ending → Type 0
 IsDone words held serves input old new ending =
     ((text : Text) × IsShownFor words text × Appends old new text × (ending ≡ Done))
     ⊎ (((at : Moment) × IsJobOf words (jobs.Legs at) × (text : Text) × IfSome input (λ bytes. IsAnswer at.0 bytes text) × Appends old new text × (ending ≡ Done))
-    ⊎ (((cert : Option Text) × (window : Window) × AsksCheck words cert window × IsJudged held cert window.seconds input old new ending)
-    ⊎ ((AsksMend words × IsMended input old new ending)
+    ⊎ (((cert : Option Text) × (options : CheckOptions) × AsksCheck words cert options × IsJudgedAs options held cert input old new ending)
+    ⊎ (((patch : Bool) × AsksMend words patch × IsMendedAs patch input old new ending)
     ⊎ (((order : RunOrder) × AsksRun words order × IsServed held serves order input old new ending)
     ⊎ ((order : SpoolOrder) × AsksSpool words order × IsListed held order old new × (ending ≡ Done))))))
 
@@ -135,8 +151,8 @@ IsStop words held input (Damaged slot) = AsksAnySpool words
 IsStop words held input (Run fault) =
     IsOutside fault
     ⊎ (((at : Moment) × IsJobOf words (jobs.Legs at) × IfSome input (λ bytes. legs.IsRunFault bytes fault))
-    ⊎ (((cert : Option Text) × (window : Window) × AsksCheck words cert window × IsJudgingFault held cert window.seconds input (Run fault))
-    ⊎ ((AsksMend words × IsMendingStop input (Run fault))
+    ⊎ (((cert : Option Text) × (options : CheckOptions) × AsksCheck words cert options × IsJudgingFault held cert options.window.seconds input (Run fault))
+    ⊎ (((patch : Bool) × AsksMend words patch × IsMendingStop input (Run fault))
     ⊎ ((order : RunOrder) × AsksRun words order × IsJudgingFault held None order.settings.window.seconds input (Run fault)))))
-IsStop words held input (Mended fault) = AsksMend words × IsMendingStop input (Mended fault)
-IsStop words held input NoChange = AsksMend words × IsMendingStop input NoChange
+IsStop words held input (Mended fault) = (patch : Bool) × AsksMend words patch × IsMendingStop input (Mended fault)
+IsStop words held input NoChange = (patch : Bool) × AsksMend words patch × IsMendingStop input NoChange

@@ -2,7 +2,7 @@
 
 ghost use Rattle.std.specs.Prelude.{◌≡◌, ℕ, List, IfOk, option_map, string_bytes};
 ghost use Rattle.std.specs.Str.Lossy.{utf8_lossy};
-ghost use Rattle.mcv_command.specs.Detail.{IsSecondLine, config_fault, ended_fault, reads_configuration};
+ghost use Rattle.mcv_command.specs.Detail.{IsSecondLine, config_fault, ended_fault, says_more};
 ghost use Rattle.mcv_faults.specs.FaultLine.{IsDetailOf};
 
 use crate::stop::{Ending, Stop};
@@ -12,14 +12,15 @@ use mcv_names::ConfigFault;
 use mcv_words::Job;
 use std::alloc::{AllocError, Global};
 
-/// Whether a job is done on a configuration alone, which is then the whole input.
-pub fn reads_configuration(job: &Job<'_>) -> bool
-    ensures { result ≡ reads_configuration job.now }
+/// Whether more is said of a fault of the configuration: the job is done on a configuration alone, which is then the whole
+/// input, and `-q` isn't given.
+pub fn says_more(job: &Job<'_>) -> bool
+    ensures { result ≡ says_more job.now }
 {
     match job {
         Job::Legs { .. } => false,
-        Job::Check { .. } => true,
-        Job::Mend => true,
+        Job::Check { options, .. } => !options.quiet,
+        Job::Mend { patch: _ } => true,
         Job::Run(_) => true,
         Job::Spool(_) => false,
     }

@@ -11,7 +11,7 @@ mod proxy;
 mod stop;
 mod system;
 
-pub use detail::{reads_configuration, second_line};
+pub use detail::{says_more, second_line};
 pub use files::{NamedFiles, SystemFiles};
 pub use program::run_words;
 pub use proxy::Proxy;

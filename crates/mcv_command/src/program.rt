@@ -1,7 +1,7 @@
 //! The program, over any reader and writer in place of standard input and output, any files and any proxy.
 
 ghost use Rattle.std.specs.Prelude.{◌≡◌, ◌≢◌, ℕ, None, Some, Err, IfErr, IfOk, map};
-ghost use Rattle.mcv_command.specs.Program.{AsksAnyRun, AsksAnySpool, Held, IsDone, IsJudged, IsJudgingFault, IsListed, IsListedTo, IsListingStop, IsMended, IsMendingStop, IsServed, IsStop, ending_of, shown_of};
+ghost use Rattle.mcv_command.specs.Program.{AsksAnyRun, AsksAnySpool, Held, IsDone, IsJudgedAs, IsJudgingFault, IsListed, IsListedTo, IsListingStop, IsMended, IsMendedAs, IsMendingStop, IsPatched, IsServed, IsStop, ending_of, shown_of};
 ghost use Rattle.mcv_command.specs.declared.stop.Stop.TheVariants.{Run, Damaged};
 ghost use Rattle.mcv_input.specs.declared.fault.RunFault.TheVariants.{Device, Memory};
 ghost use Rattle.mcv_words.specs.Words.{AsksSpool, SpoolOrder, order_of, spool_order_of};
@@ -12,9 +12,11 @@ use crate::stop::{Ending, Stop};
 use mcv_input::{RunFault, write_text};
 use mcv_legs::run_legs;
 use mcv_mend::run_mend;
+use mcv_mend_patch::run_patch;
 use mcv_records::{Shown, write_records};
-use mcv_verdict::{Judgement, Verdict, judge_input, run_check};
-use mcv_words::{Job, LineFault, RunOptions, SpoolOptions, Window, read_words};
+use mcv_show::run_check_as;
+use mcv_verdict::{Judgement, Verdict, judge_input};
+use mcv_words::{CheckOptions, Job, LineFault, RunOptions, SpoolOptions, read_words};
 use std::alloc::Global;
 use std::io::{Read, Write};
 use std::sync::Arc;
@@ -32,41 +34,77 @@ fn ending_of(verdict: Verdict) -> Ending
     }
 }
 
-/// Judges a configuration within the window by a certificate that is made here.
+/// Judges a configuration by a certificate that is made here, as the options say.
 fn judge<R: Read, W: Write>(
     alloc: Global,
-    window: Window,
+    options: CheckOptions,
     reader: &mut R,
     writer: &mut W,
 ) -> Result<Ending, Stop>
-    ensures done { (held : Held) → IfOk result (IsJudged held None window.seconds (R.remaining reader.old) (W.contents writer.old) (W.contents writer.new)) }
-    ensures stop { (held : Held) → IfErr result (IsJudgingFault held None window.seconds (R.remaining reader.old)) }
+    ensures done { (held : Held) → IfOk result (IsJudgedAs options held None (R.remaining reader.old) (W.contents writer.old) (W.contents writer.new)) }
+    ensures stop { (held : Held) → IfErr result (IsJudgingFault held None options.window.seconds (R.remaining reader.old)) }
     ensures silent { IfErr result (λ stop. stop ≢ Run Device → W.contents writer.new ≡ W.contents writer.old) }
 {
-    let verdict = run_check(alloc, reader, writer, None, window.seconds)?;
+    let verdict = run_check_as(alloc, reader, writer, None, options)?;
     Ok(ending_of(verdict))
 }
 
-/// Judges a configuration within the window by the certificate in the file of this name, which is read first.
+/// Judges a configuration by the certificate in the file of this name, which is read first, as the options say.
 fn judge_by<R: Read, W: Write, F: NamedFiles>(
     alloc: Global,
     name: &str,
-    window: Window,
+    options: CheckOptions,
     files: &F,
     reader: &mut R,
     writer: &mut W,
 ) -> Result<Ending, Stop>
-    ensures done { IfOk result (IsJudged (F.held files.now) (Some name.now) window.seconds (R.remaining reader.old) (W.contents writer.old) (W.contents writer.new)) }
-    ensures stop { IfErr result (IsJudgingFault (F.held files.now) (Some name.now) window.seconds (R.remaining reader.old)) }
+    ensures done { IfOk result (IsJudgedAs options (F.held files.now) (Some name.now) (R.remaining reader.old) (W.contents writer.old) (W.contents writer.new)) }
+    ensures stop { IfErr result (IsJudgingFault (F.held files.now) (Some name.now) options.window.seconds (R.remaining reader.old)) }
     ensures silent { IfErr result (λ stop. stop ≢ Run Device → W.contents writer.new ≡ W.contents writer.old) }
 {
     let text = files.read_named(alloc, name, CERTIFICATE_LIMIT)?;
-    let verdict = run_check(alloc, reader, writer, Some(text.as_slice()), window.seconds)?;
+    let verdict = run_check_as(alloc, reader, writer, Some(text.as_slice()), options)?;
     Ok(ending_of(verdict))
 }
 
+/// Writes a configuration mended, or the patch that mends it.
+fn mend<R: Read, W: Write>(
+    alloc: Global,
+    patch: bool,
+    reader: &mut R,
+    writer: &mut W,
+) -> Result<Ending, Stop>
+    ensures done { IfOk result (IsMendedAs patch (R.remaining reader.old) (W.contents writer.old) (W.contents writer.new)) }
+    ensures stop { IfErr result (IsMendingStop (R.remaining reader.old)) }
+    ensures silent { IfErr result (λ stop. stop ≢ Run Device → W.contents writer.new ≡ W.contents writer.old) }
+{
+    if patch {
+        write_patch(alloc, reader, writer)
+    } else {
+        write_mended(alloc, reader, writer)
+    }
+}
+
+/// Writes the patch that adds to a configuration the legs that its deletes lack.
+fn write_patch<R: Read, W: Write>(
+    alloc: Global,
+    reader: &mut R,
+    writer: &mut W,
+) -> Result<Ending, Stop>
+    ensures done { IfOk result (IsPatched (R.remaining reader.old) (W.contents writer.old) (W.contents writer.new)) }
+    ensures stop { IfErr result (IsMendingStop (R.remaining reader.old)) }
+    ensures silent { IfErr result (λ stop. stop ≢ Run Device → W.contents writer.new ≡ W.contents writer.old) }
+{
+    let _mending = run_patch(alloc, reader, writer)?;
+    Ok(Ending::Done)
+}
+
 /// Writes a configuration with the legs that its deletes lack, and one that is covered as it is.
-fn mend<R: Read, W: Write>(alloc: Global, reader: &mut R, writer: &mut W) -> Result<Ending, Stop>
+fn write_mended<R: Read, W: Write>(
+    alloc: Global,
+    reader: &mut R,
+    writer: &mut W,
+) -> Result<Ending, Stop>
     ensures done { IfOk result (IsMended (R.remaining reader.old) (W.contents writer.old) (W.contents writer.new)) }
     ensures stop { IfErr result (IsMendingStop (R.remaining reader.old)) }
     ensures silent { IfErr result (λ stop. stop ≢ Run Device → W.contents writer.new ≡ W.contents writer.old) }
@@ -152,14 +190,19 @@ pub fn run_words<'a, R: Read, W: Write, F: NamedFiles, P: Proxy>(
             run_legs(alloc, reader, writer, at)?;
             Ok(Ending::Done)
         }
-        Ok(Job::Check { cert: None, window }) => judge(alloc, window, reader, writer),
+        Ok(
+            Job::Check {
+                cert: None,
+                options,
+            },
+        ) => judge(alloc, options, reader, writer),
         Ok(
             Job::Check {
                 cert: Some(name),
-                window,
+                options,
             },
-        ) => judge_by(alloc, name, window, files, reader, writer),
-        Ok(Job::Mend) => mend(alloc, reader, writer),
+        ) => judge_by(alloc, name, options, files, reader, writer),
+        Ok(Job::Mend { patch }) => mend(alloc, patch, reader, writer),
         Ok(Job::Run(options)) => serve(alloc, proxy, options, reader, writer),
         Ok(Job::Spool(options)) => list_records(alloc, options, files, writer),
         Err(LineFault::Help(text)) => {

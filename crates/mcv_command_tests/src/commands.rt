@@ -6,7 +6,7 @@ use crate::devices::{HeldBytes, is_written};
 use mcv_check::Accepted;
 use mcv_command::{Ending, NamedFiles, Proxy, Stop, run_words};
 use mcv_input::{RunFault, read_at_most};
-use mcv_words::{Job, LineFault, RunOptions, SpoolOptions, read_words};
+use mcv_words::{CheckOptions, Job, LineFault, RunOptions, SpoolOptions, read_words};
 use std::alloc::Global;
 use std::io::Write;
 use std::process::Abort;
@@ -35,31 +35,39 @@ mcv check --cert=: check 0 by
 mcv check --cert: bad line
 mcv check --cert a --cert b: bad line
 mcv check a.cert: bad line
+mcv check --explain: check 0, explained
+mcv check --explain -q --window 60: check 60, explained, quietly
+mcv check --quiet --cert a.cert: check 0 by a.cert, quietly
+mcv check --explain --explain: bad line
+mcv check --explain=yes: bad line
 mcv check --at 1: bad line
 mcv legs --cert a: bad line
 mcv mend: mend
+mcv mend --patch: mend by a patch
+mcv mend --patch=yes: bad line
+mcv mend --patch --patch: bad line
 mcv mend mcrouter.json: bad line
 mcv mend --window 60: bad line
-mcv run --listen h:1 --spool f: run h:1 f - 1 0 - -
-mcv run --spool=f --listen=h:1 --sessions=+7: run h:1 f 7 1 0 - -
-mcv run --listen h:1 --spool f --sessions 1: run h:1 f 1 1 0 - -
-mcv run --listen h:1 --spool f --sessions 1000000000: run h:1 f 1000000000 1 0 - -
+mcv run --listen h:1 --spool f: run h:1 f - 1 0 - - -
+mcv run --spool=f --listen=h:1 --sessions=+7: run h:1 f 7 1 0 - - -
+mcv run --listen h:1 --spool f --sessions 1: run h:1 f 1 1 0 - - -
+mcv run --listen h:1 --spool f --sessions 1000000000: run h:1 f 1000000000 1 0 - - -
 mcv run --listen h:1 --spool f --sessions 1000000001: bad line
 mcv run --listen h:1 --spool f --sessions 0: bad line
 mcv run --listen h:1 --spool f --sessions -1: bad line
 mcv run --listen h:1 --spool f --sessions all: bad line
 mcv run --listen h:1 --spool f --sessions: bad line
 mcv run --listen h:1 --spool f --sessions 1 --sessions 2: bad line
-mcv run --listen h:1 --spool f --proxies 1: run h:1 f - 1 0 - -
-mcv run --listen h:1 --spool f --proxies=64 --sessions 7: run h:1 f 7 64 0 - -
+mcv run --listen h:1 --spool f --proxies 1: run h:1 f - 1 0 - - -
+mcv run --listen h:1 --spool f --proxies=64 --sessions 7: run h:1 f 7 64 0 - - -
 mcv run --listen h:1 --spool f --proxies 65: bad line
 mcv run --listen h:1 --spool f --proxies 0: bad line
 mcv run --listen h:1 --spool f --proxies auto: bad line
 mcv run --listen h:1 --spool f --proxies: bad line
 mcv run --listen h:1 --spool f --proxies 1 --proxies 2: bad line
-mcv run --listen h:1 --spool f --server-timeout 200: run h:1 f - 1 0 200 -
-mcv run --listen h:1 --spool f --server-timeout=1 --client-timeout=3600000: run h:1 f - 1 0 1 3600000
-mcv run --listen h:1 --spool f --client-timeout 200: run h:1 f - 1 0 - 200
+mcv run --listen h:1 --spool f --server-timeout 200: run h:1 f - 1 0 200 - -
+mcv run --listen h:1 --spool f --server-timeout=1 --client-timeout=3600000: run h:1 f - 1 0 1 3600000 -
+mcv run --listen h:1 --spool f --client-timeout 200: run h:1 f - 1 0 - 200 -
 mcv run --listen h:1 --spool f --server-timeout 0: bad line
 mcv run --listen h:1 --spool f --server-timeout 3600001: bad line
 mcv run --listen h:1 --spool f --server-timeout 1s: bad line
@@ -67,8 +75,11 @@ mcv run --listen h:1 --spool f --server-timeout: bad line
 mcv run --listen h:1 --spool f --client-timeout 0: bad line
 mcv run --listen h:1 --spool f --client-timeout 3600001: bad line
 mcv run --listen h:1 --spool f --client-timeout 1 --client-timeout 1: bad line
-mcv run --listen= --spool=: run   - 1 0 - -
-mcv run --listen h:1 --spool f --window 60: run h:1 f - 1 60 - -
+mcv run --listen h:1 --spool f --max-clients 1000000: run h:1 f - 1 0 - - 1000000
+mcv run --listen h:1 --spool f --max-clients 0: bad line
+mcv run --listen h:1 --spool f --max-clients 1000001: bad line
+mcv run --listen= --spool=: run   - 1 0 - - -
+mcv run --listen h:1 --spool f --window 60: run h:1 f - 1 60 - - -
 mcv run --listen h:1 --spool f --window 4294967296: bad line
 mcv run: bad line
 mcv run --listen h:1: bad line
@@ -136,8 +147,9 @@ fn order_text(rt: &(impl AllocGlobal + Abort), options: RunOptions<'_>) -> Strin
     let window = settings.window.seconds;
     let server = number_text(rt, settings.server_timeout.map(|timeout| timeout.millis));
     let client = number_text(rt, settings.client_timeout.map(|timeout| timeout.millis));
+    let clients = number_text(rt, settings.max_clients.map(|clients| clients.count));
     let text = format!(in rt.alloc();
-        "{listen} {spool} {sessions} {proxies} {window} {server} {client}"
+        "{listen} {spool} {sessions} {proxies} {window} {server} {client} {clients}"
     );
     text.expect(rt, "memory")
 }
@@ -145,12 +157,22 @@ fn order_text(rt: &(impl AllocGlobal + Abort), options: RunOptions<'_>) -> Strin
 fn job_text(rt: &(impl AllocGlobal + Abort), job: Job<'_>) -> String {
     let text = match job {
         Job::Legs { at } => format!(in rt.alloc(); "legs at {}", at.0),
-        Job::Check { cert: None, window } => format!(in rt.alloc(); "check {}", window.seconds),
+        Job::Check {
+            cert: None,
+            options,
+        } => {
+            let window = options.window.seconds;
+            format!(in rt.alloc(); "check {window}{}", options_text(options))
+        }
         Job::Check {
             cert: Some(name),
-            window,
-        } => format!(in rt.alloc(); "check {} by {name}", window.seconds),
-        Job::Mend => format!(in rt.alloc(); "mend"),
+            options,
+        } => {
+            let window = options.window.seconds;
+            format!(in rt.alloc(); "check {window} by {name}{}", options_text(options))
+        }
+        Job::Mend { patch: false } => format!(in rt.alloc(); "mend"),
+        Job::Mend { patch: true } => format!(in rt.alloc(); "mend by a patch"),
         Job::Run(options) => {
             let order = order_text(rt, options);
             format!(in rt.alloc(); "run {order}")
@@ -161,6 +183,15 @@ fn job_text(rt: &(impl AllocGlobal + Abort), job: Job<'_>) -> String {
         }
     };
     text.expect(rt, "memory")
+}
+
+fn options_text(options: CheckOptions) -> &'static str {
+    match (options.explain, options.quiet) {
+        (false, false) => "",
+        (true, false) => ", explained",
+        (false, true) => ", quietly",
+        (true, true) => ", explained, quietly",
+    }
 }
 
 fn fault_text(fault: &LineFault) -> &'static str {
@@ -318,7 +349,9 @@ const MAIN_PARTS: &[&str] = &[
 ];
 
 const CHECK_PARTS: &[&str] = &[
-    "Usage: mcv check [--cert FILE] [--window SECONDS] < FILE",
+    "Usage: mcv check [--cert FILE] [--window SECONDS] [--explain] [-q] < FILE",
+    "--explain",
+    "-q, --quiet",
     "--cert <FILE>",
     "--window <SECONDS>",
     "from 0 to 4294967295 [default: 0]",
@@ -344,7 +377,8 @@ const LEGS_PARTS: &[&str] = &[
 ];
 
 const MEND_PARTS: &[&str] = &[
-    "Usage: mcv mend < FILE",
+    "Usage: mcv mend [--patch] < FILE",
+    "--patch ",
     "\n  mcv mend < mcrouter.json > mended.json && diff mcrouter.json mended.json\n",
     "\n  3  nothing is written",
     "mcv: configuration NUMBER at PATH",
@@ -378,6 +412,7 @@ const RUN_PARTS: &[&str] = &[
     "[default: 1]",
     "--server-timeout <MS>",
     "--client-timeout <MS>",
+    "--max-clients <N>",
     "mcrouter's `--num-proxies`",
     "\n  mcv run --listen 127.0.0.1:5000 --spool mcv.spool --server-timeout 1000 \\\n    < mcrouter.json\n",
     "\n  mcv listening 127.0.0.1:5000 pending 0\n",
@@ -560,6 +595,9 @@ const WARM_UP_MENDED: &str =
 const DEEPEST: &str =
     "{\"pools\":{\"C\":{\"servers\":[\"a:11211\",\"b:11211\"]}},\"route\":\"AllSyncRoute|AllSyncRoute|AllSyncRoute|AllSyncRoute|AllSyncRoute|AllSyncRoute|AllSyncRoute|AllSyncRoute|AllSyncRoute|AllSyncRoute|AllSyncRoute|AllSyncRoute|AllSyncRoute|AllSyncRoute|AllSyncRoute|AllSyncRoute|AllSyncRoute|AllSyncRoute|AllSyncRoute|AllSyncRoute|AllSyncRoute|AllSyncRoute|AllSyncRoute|AllSyncRoute|AllSyncRoute|AllSyncRoute|AllSyncRoute|AllSyncRoute|AllSyncRoute|FailoverRoute|Pool|C\"}";
 
+const WARM_UP_PATCH: &str =
+    "[{\"op\":\"replace\",\"path\":\"/route\",\"value\":{\"default_policy\":{\"cold\":\"PoolRoute|A\",\"type\":\"WarmUpRoute\",\"warm\":\"PoolRoute|B\"},\"operation_policies\":{\"delete\":{\"children\":[\"PoolRoute|A\",\"PoolRoute|B\"],\"type\":\"AllSyncRoute\"}},\"type\":\"OperationSelectorRoute\"}}]\n";
+
 const TOO_DEEP: &str = "mcv: mended configuration 7 at /route/operation_policies/delete/children/0";
 
 #[test]
@@ -569,6 +607,15 @@ fn configurations_are_mended(rt: HostRuntime) {
     check_said(&rt, &["mcv", "mend"], DEEPEST, TOO_DEEP, 3);
     check_said(&rt, &["mcv", "mend"], "{", "mcv: configuration 1 at .", 2);
     check_stop(&rt, "mend", "mcv: configuration 1 at .", 2);
+}
+
+#[test]
+fn patches_are_written(rt: HostRuntime) {
+    let words = ["mcv", "mend", "--patch"];
+    check_said(&rt, &words, WARM_UP, WARM_UP_PATCH, 0);
+    check_said(&rt, &words, POOL, "[]\n", 0);
+    check_said(&rt, &words, DEEPEST, TOO_DEEP, 3);
+    check_said(&rt, &words, "{", "mcv: configuration 1 at .", 2);
 }
 
 /// What the program says and does where it is to serve three sessions at an address by two proxies.

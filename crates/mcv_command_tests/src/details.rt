@@ -1,6 +1,6 @@
 //! What is said of a fault of a configuration behind its line.
 
-use mcv_command::{Ending, Stop, reads_configuration, second_line};
+use mcv_command::{Ending, Stop, says_more, second_line};
 use mcv_input::{RunFault, read_routes};
 use mcv_words::read_words;
 use std::alloc::Global;
@@ -35,16 +35,18 @@ fn more_is_said_of_faults(rt: HostRuntime) {
     check_detail(&rt, "{\"route\": \"NullRoute\"}", "");
 }
 
-fn reads(alloc: Global, words: &[&str]) -> bool {
+fn says(alloc: Global, words: &[&str]) -> bool {
     match read_words(alloc, words) {
-        Ok(job) => reads_configuration(&job),
+        Ok(job) => says_more(&job),
         Err(_) => false,
     }
 }
 
 #[test]
-fn requests_are_no_configurations(rt: HostRuntime) {
-    assert!(rt; reads(rt.alloc(), &["mcv", "check"]));
-    assert!(rt; !reads(rt.alloc(), &["mcv", "legs"]));
-    assert!(rt; !reads(rt.alloc(), &["mcv", "serve"]));
+fn more_is_said_of_configurations_alone(rt: HostRuntime) {
+    assert!(rt; says(rt.alloc(), &["mcv", "check"]));
+    assert!(rt; says(rt.alloc(), &["mcv", "mend"]));
+    assert!(rt; !says(rt.alloc(), &["mcv", "check", "-q"]));
+    assert!(rt; !says(rt.alloc(), &["mcv", "legs"]));
+    assert!(rt; !says(rt.alloc(), &["mcv", "serve"]));
 }

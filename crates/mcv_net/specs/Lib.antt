@@ -4,4 +4,5 @@ pub mod Fault
 pub mod Legs
 pub mod Lines
 pub mod Repeat
+pub mod Seats
 pub mod Connections

@@ -1,5 +1,6 @@
 //! A client's connection, read and written by its session.
 
+use crate::seats::Seat;
 use mcv_words::ClientTimeout;
 use std::alloc::{AllocError, Global};
 use std::io;
@@ -8,10 +9,17 @@ use std::net::TcpStream;
 use std::sync::Arc;
 use std::time::Duration;
 
-/// One end of a session's work on its client's connection, which is closed with the last end.
+/// A connection, and the seat that it takes.
+#[derive(Drop)]
+struct Seated {
+    stream: TcpStream,
+    _seat: Seat,
+}
+
+/// One end of a session's work on its client's connection, which is closed with the last end; then its seat is free.
 #[derive(Drop)]
 pub struct Client {
-    stream: Arc<TcpStream>,
+    seated: Arc<Seated>,
 }
 
 impl Client {
@@ -20,6 +28,7 @@ impl Client {
     pub fn ends_of(
         alloc: Global,
         stream: TcpStream,
+        seat: Seat,
         timeout: Option<ClientTimeout>,
     ) -> io::Result<(Client, Client)> {
         // Without it small writes may wait, but the connection serves all the same.
@@ -29,21 +38,25 @@ impl Client {
             stream.set_read_timeout(most)?;
             stream.set_write_timeout(most)?;
         }
-        let stream = Arc::new(alloc, stream).map_err(AllocError::from)?;
-        let other = Arc::try_clone(&stream)?;
-        Ok((Client { stream }, Client { stream: other }))
+        let seated = Seated {
+            stream,
+            _seat: seat,
+        };
+        let seated = Arc::new(alloc, seated).map_err(AllocError::from)?;
+        let other = Arc::try_clone(&seated)?;
+        Ok((Client { seated }, Client { seated: other }))
     }
 }
 
 impl Read for Client {
     fn read(&mut self, buf: &mut [u8]) -> io::Result<usize> {
-        (&*self.stream).read(buf)
+        (&self.seated.stream).read(buf)
     }
 }
 
 impl Write for Client {
     fn write(&mut self, buf: &[u8]) -> io::Result<usize> {
-        (&*self.stream).write(buf)
+        (&self.seated.stream).write(buf)
     }
 
     fn flush(&mut self) -> io::Result<()> {

@@ -11,6 +11,7 @@ use crate::fault::NetFault;
 use crate::lines::{listening_line, print_line};
 use crate::link::{Begun, TcpLink};
 use crate::notice::{Notice, Notices, StandardError};
+use crate::seats::{Seat, Seats};
 use crate::system_watch::SystemWatch;
 use mcv_proxy::{Gates, ProxyFault};
 use mcv_spool::Disk;
@@ -32,10 +33,14 @@ pub struct NetGates<'a, D: Disk, W: Write, R: Drop> {
     settings: Settings,
     /// How many clients are still to be served; where that has no limit, more than come.
     sessions: u64,
+    seats: Seats,
     out: &'a mut W,
     /// Whether the last try to accept a client failed.
     is_deaf: bool,
 }
+
+/// What a client is answered for which there is no seat.
+const TOO_MANY: &[u8] = b"SERVER_ERROR too many clients\r\n";
 
 /// Whether a listener that failed so accepts clients later. One that isn't a listener never does.
 fn passes(kind: ErrorKind) -> bool {
@@ -50,21 +55,23 @@ impl<'a, D: Disk, W: Write, R: Clock + Eprint + Copy + Drop> NetGates<'a, D, W, 
         disk: D,
         settings: Settings,
         out: &'a mut W,
-    ) -> NetGates<'a, D, W, R> {
+    ) -> Result<NetGates<'a, D, W, R>, AllocError> {
         let sessions = match settings.sessions {
             Some(sessions) => sessions.count,
             None => u64::MAX,
         };
-        NetGates {
+        let seats = Seats::new(alloc, settings.max_clients)?;
+        Ok(NetGates {
             rt,
             alloc,
             listener,
             disk: Some(disk),
             settings,
             sessions,
+            seats,
             out,
             is_deaf: false,
-        }
+        })
     }
 
     fn note(&self, notice: Notice<'_>) {
@@ -102,6 +109,31 @@ impl<'a, D: Disk, W: Write, R: Clock + Eprint + Copy + Drop> NetGates<'a, D, W, 
                     thread::sleep(&self.rt, Duration::from_millis(10));
                 }
                 Err(_) => return None,
+            }
+        }
+        None
+    }
+
+    /// Tells a client that there are too many, and closes its connection.
+    fn refuse(&mut self, stream: TcpStream)
+        ensures { self.new.sessions ≡ self.old.sessions }
+    {
+        if let Some(refused) = self.seats.refuse() {
+            self.note(Notice::Crowded(refused));
+        }
+        // It is closed all the same where it takes no answer.
+        let _ = (&stream).write_all(TOO_MANY);
+    }
+
+    /// The next connection for which there is a seat, as `next_stream` has it. Those that come before it are refused.
+    fn next_seated(&mut self) -> Option<(TcpStream, Seat)>
+        ensures { self.new.sessions ≡ self.old.sessions }
+    {
+        for _client in 0..u64::MAX {
+            let stream = self.next_stream()?;
+            match self.seats.take() {
+                Some(seat) => return Some((stream, seat)),
+                None => self.refuse(stream),
             }
         }
         None
@@ -166,8 +198,8 @@ where
     {
         for _try in 0..u64::MAX {
             self.sessions = self.sessions.checked_sub(1)?;
-            let stream = self.next_stream()?;
-            match Client::ends_of(self.alloc, stream, self.settings.client_timeout) {
+            let (stream, seat) = self.next_seated()?;
+            match Client::ends_of(self.alloc, stream, seat, self.settings.client_timeout) {
                 Ok(ends) => return Some(ends),
                 Err(_) => self.note(Notice::Unserved),
             }

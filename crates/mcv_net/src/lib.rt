@@ -15,6 +15,7 @@ mod link;
 mod loss;
 mod notice;
 mod run;
+mod seats;
 mod system_watch;
 
 pub use client::Client;
@@ -26,4 +27,5 @@ pub use link::TcpLink;
 pub use loss::{Loss, may_ask_again};
 pub use notice::{Notice, Notices, StandardError};
 pub use run::{SpoolFiles, listen, run_proxy, serve};
+pub use seats::Seat;
 pub use system_watch::SystemWatch;

@@ -20,6 +20,8 @@ pub enum Notice<'a> {
     Deaf,
     /// They are accepted again.
     Hearing,
+    /// There were as many clients as there may be: so many have been refused since the start.
+    Crowded(u64),
     /// There is no limit to how long a server may take.
     Unlimited,
 }
@@ -34,6 +36,7 @@ impl<'a> fmt::Display for Notice<'a> {
             Notice::Unserved => write!(f, "mcv: no thread for a session"),
             Notice::Deaf => write!(f, "mcv: clients can't be accepted"),
             Notice::Hearing => write!(f, "mcv: clients are accepted again"),
+            Notice::Crowded(refused) => write!(f, "mcv: too many clients: {refused} refused"),
             Notice::Unlimited => write!(
                 f,
                 "mcv: no --server-timeout: a server that never answers will stop all clients"

@@ -47,7 +47,7 @@ where
     if settings.server_timeout.is_none() {
         StandardError { rt }.note(Notice::Unlimited);
     }
-    let gates = NetGates::new(rt, alloc, listener, disk, settings, &mut *out);
+    let gates = NetGates::new(rt, alloc, listener, disk, settings, &mut *out)?;
     let report = start(rt, alloc, accepted, gates)?;
     let line = closed_line(alloc, report)?;
     print_line(out, line.as_slice())?;

@@ -368,6 +368,12 @@ fn notices_are_lines(rt: HostRuntime) {
     check_notice(
         &rt,
         alloc,
+        Notice::Crowded(2000),
+        "mcv: too many clients: 2000 refused",
+    );
+    check_notice(
+        &rt,
+        alloc,
         Notice::Unlimited,
         "mcv: no --server-timeout: a server that never answers will stop all clients",
     );

@@ -109,6 +109,7 @@ fn settings_of(rt: &impl Abort, visit: &Visit) -> Settings {
         window: Window::new(0).expect(rt, "a window"),
         server_timeout: ServerTimeout::new(30_000),
         client_timeout: None,
+        max_clients: None,
     }
 }
 

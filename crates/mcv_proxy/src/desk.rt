@@ -496,7 +496,7 @@ impl<'a, B: HubLedger, T: Ledger, L: Link, W: Watch, R: Wait + Clock> Caller<'a,
         begun
     }
 
-    /// Reports what came of the leg that was sent, if one was, and goes on with the calls.
+    /// Reports what came of the leg that was sent, if one was, goes on with the calls, and notes the server that is marked by it.
     fn round(
         &mut self,
         calls: &[CallId],
@@ -513,12 +513,14 @@ impl<'a, B: HubLedger, T: Ledger, L: Link, W: Watch, R: Wait + Clock> Caller<'a,
     {
         let (rt, alloc, hub, lanes) = (self.rt, self.alloc, self.hub, self.lanes);
         let mut guard = hub.lock(rt, &mut self.pass);
-        self.errands.land(rt, lanes, &mut guard, calls);
+        let marked = self.errands.land(rt, lanes, &mut guard, calls);
         let seat = &mut self.seat;
         let errands = &mut self.errands;
-        go_on(
+        let progress = go_on(
             rt, alloc, hub, lanes, guard, seat, errands, calls, progress, taken,
-        )
+        );
+        self.errands.note_marked(rt, self.links, &self.pass, marked);
+        progress
     }
 
     /// Takes the replies to calls, in their order, and sends legs for that. Where one isn't there the others are taken too, and
@@ -547,7 +549,7 @@ impl<'a, B: HubLedger, T: Ledger, L: Link, W: Watch, R: Wait + Clock> Caller<'a,
                 .carry(self.rt, self.alloc, self.links, &self.pass);
             progress = self.round(calls, progress, taken);
         }
-        self.errands.finish(self.rt, self.links, &self.pass);
+        self.errands.finish();
         match progress.missed {
             Some(fault) => Err(fault),
             None => Ok(()),

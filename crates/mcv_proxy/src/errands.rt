@@ -40,8 +40,6 @@ pub(crate) struct Errands<'a, B: HubLedger, T: Ledger, L: Link> {
     late: Vec<Due>,
     /// A leg was lost without being sent, so that replies may be there.
     has_lost: bool,
-    /// A server that is marked since the last notice.
-    marked: Option<ServerId>,
     /// From how many entries on a chapter ends once nothing is left of it.
     pub(crate) turn_from: usize,
 }
@@ -104,7 +102,6 @@ impl<'a, B: HubLedger, T: Ledger, L: Link> Errands<'a, B, T, L> {
             landed: None,
             late: Vec::new(alloc),
             has_lost: false,
-            marked: None,
             turn_from,
         }
     }
@@ -296,29 +293,37 @@ impl<'a, B: HubLedger, T: Ledger, L: Link> Errands<'a, B, T, L> {
     }
 
     /// Reports what came of the leg in flight. Where the session has no other leg for its server, who is next there is rung.
+    /// The server, where that is marked by it.
     pub(crate) fn land<R: Wait>(
         &mut self,
         rt: &R,
         lanes: &Lanes,
         guard: &mut Guard<'_, B, T>,
         own: &[CallId],
-    ) {
-        let Some((server, marks)) = self.report(guard, own) else {
-            return;
-        };
-        if marks {
-            self.marked = Some(server);
-        }
+    ) -> Option<ServerId> {
+        let (server, marks) = self.report(guard, own)?;
         if !self.has_due(guard, server) {
             lanes.pass_on(rt, &mut self.agenda, guard, server);
         }
+        if marks { Some(server) } else { None }
     }
 
-    /// Rings all bells, and notes the server that is marked since the last time.
-    pub(crate) fn finish<R: Wait>(&mut self, rt: &R, links: &Links<L>, pass: &Pass) {
-        self.agenda.ring_all();
-        if let Some(server) = self.marked.take() {
+    /// Notes that a server is marked, if one is. Whoever is to be woken is before, since the line may take long.
+    pub(crate) fn note_marked<R: Wait>(
+        &mut self,
+        rt: &R,
+        links: &Links<L>,
+        pass: &Pass,
+        marked: Option<ServerId>,
+    ) {
+        if let Some(server) = marked {
+            self.agenda.ring_all();
             links.note_marked(rt, pass, server);
         }
+    }
+
+    /// Rings all bells.
+    pub(crate) fn finish(&mut self) {
+        self.agenda.ring_all();
     }
 }

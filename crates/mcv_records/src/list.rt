@@ -145,8 +145,8 @@ fn count_line(alloc: Global, counts: Counts) -> Result<Vec<u8>, AllocError>
 }
 
 /// Writes a line for each record of the file, in the order of their numbers, and a last one with their count. It reads one
-/// slot at a time. Where a slot is damaged the lines of those before it have been written, and where the disk or
-/// the writer fails some of them may have been. The disk isn't changed.
+/// slot at a time. Where a slot is damaged the lines of those before it have been written; where the disk or the writer
+/// fails, or memory runs out, some of them may have been. The disk isn't changed.
 pub fn write_records<D: Disk, W: Write>(
     alloc: Global,
     disk: &mut D,

@@ -1,17 +1,19 @@
 -- Replies, as their bytes are written.
-use Rattle.std.proofs.Common.{◌≡◌, ◌≢◌, ℕ, inl, inr, true, not, eqb, List, [], ◌∷◌, ◌++◌, refl, arith, None}
+use Rattle.std.proofs.Common.{◌≡◌, ◌≢◌, ℕ, inl, inr, true, not, eqb, List, [], ◌∷◌, ◌++◌, refl, arith, None, Ok, Err}
 use Rattle.std.specs.Prelude.{codes}
 use Rattle.std.specs.List.{All, list_all}
 use Rattle.std.proofs.lemmas.Bool.{and_parts, not-true, eqb-false}
 use Rattle.std.proofs.lemmas.List.Elements.{All-nil, All-cons}
 use Rattle.mcv_base.specs.declared.operation.Op.TheVariants.{Get, Delete, Incr}
-use Rattle.mcv_base.specs.Reply.{hit, miss, number, fault}
-use Rattle.mcv_reply.specs.declared.word.Word.TheVariants.{Count, End, ServerError}
+use Rattle.mcv_base.specs.Reply.{hit, miss, deleted, number, fault}
+use Rattle.mcv_reply.specs.declared.fault.ReplyFault.TheVariants.{NotAReply}
+use Rattle.mcv_reply.specs.declared.word.Word.TheVariants.{Count, Deleted, End, ServerError}
 use Rattle.mcv_reply.specs.declared.word.Row.TheVariants.{Reply}
 use Rattle.mcv_reply.specs.declared.candidate.Head.{Head}
 use Rattle.mcv_reply.specs.Line.{IsLine}
 use Rattle.mcv_reply.specs.Candidate.{zero_head}
 use Rattle.mcv_reply.specs.Reply.{Spells, alone, with_value}
+use Rattle.mcv_reply.specs.Replies.{Leg, Open, Closed, Receives, Sends}
 
 without_end : (bytes : List ℕ) → list_all (λ b. not (eqb b 10)) bytes ≡ true → All (λ b. b ≢ 10) bytes
 without_end [] e = All-nil (λ b. b ≢ 10)
@@ -126,3 +128,36 @@ a_number = alone (record {
 
 pub a_miss : Spells Get (codes "a") (codes "END" ++ 13 ∷ 10 ∷ []) miss
 a_miss = alone (record { first = End; line = end_text; head = zero_head; line_is = end_of_get; parts = refl; says = refl })
+
+pub a_deleted : Spells Delete (codes "b") (codes "DELETED" ++ 13 ∷ 10 ∷ []) deleted
+a_deleted = alone (record {
+  first = Deleted;
+  line = codes "DELETED" ++ 13 ∷ [];
+  head = zero_head;
+  line_is = record {
+    may = (0, omega arith, refl);
+    writes = record { gap = 0; written = codes "DELETED"; after = 13 ∷ []; parts = refl; enough = omega arith; is = refl; rest = inr (refl, refl) };
+    no_end = without_end (codes "DELETED" ++ 13 ∷ []) refl;
+    short = omega arith;
+  };
+  parts = refl;
+  says = refl;
+})
+
+-- a get of `a`, and behind it a delete of `b`
+abbrev a_get : Leg
+a_get = record { op = Get; key = codes "a" }
+
+abbrev a_delete : Leg
+a_delete = record { op = Delete; key = codes "b" }
+
+pub two_sent : Sends (Open (a_get ∷ []) []) a_delete (Ok tt) (Open (a_get ∷ a_delete ∷ []) [])
+two_sent = refl
+
+-- both replies in one piece: each leg has its own, and none is left
+pub two_received : Receives (Open (a_get ∷ a_delete ∷ []) []) (codes "END" ++ 13 ∷ 10 ∷ (codes "DELETED" ++ 13 ∷ 10 ∷ [])) (miss ∷ deleted ∷ []) (Ok tt) (Open [] [])
+two_received = ([], [], (codes "END" ++ 13 ∷ 10 ∷ [], codes "DELETED" ++ 13 ∷ 10 ∷ [], refl, a_miss, (codes "DELETED" ++ 13 ∷ 10 ∷ [], [], refl, a_deleted, (refl, refl))), refl, refl)
+
+-- a byte that nobody asked for
+pub none_asked : Receives (Open [] []) (69 ∷ []) [] (Err NotAReply) Closed
+none_asked = ([], 69 ∷ [], (refl, refl), (λ e. absurd (cc)), refl)

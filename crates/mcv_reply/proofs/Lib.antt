@@ -15,4 +15,6 @@ pub mod Probing
 pub mod RepliesMayAnswer
 pub mod PlainLines
 pub mod PlainSteps
+pub mod FlightSteps
+pub mod RepliesInOrder
 mod Examples

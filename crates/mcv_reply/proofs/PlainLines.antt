@@ -117,9 +117,8 @@ bare_line op key line first head no_end short bare = record {
 }
 
 -- the piece begins with the line
-pub line_starts : (op : Op) (key text piece : List ℕ) (end : ℕ) (said : Meaning) → text ≡ [] → IsFirstByte (is_byte 10) piece (Some end) → IsLine (rows.Reply op) key said.first said.head (take end piece) → StartsLine op key text piece end said
-line_starts op key text piece end said none found is = record {
-  none = none;
+pub line_starts : (op : Op) (key piece : List ℕ) (end : ℕ) (said : Meaning) → IsFirstByte (is_byte 10) piece (Some end) → IsLine (rows.Reply op) key said.first said.head (take end piece) → StartsLine op key piece end said
+line_starts op key piece end said found is = record {
   within = end_within piece end found;
   cut = end_cut piece end found;
   taken = end_taken piece end found;

@@ -1,7 +1,7 @@
 -- What a reply goes on with.
 use Rattle.std.proofs.Common.{◌≡◌, ◌≢◌, ℕ, Bool, true, false, List, [], ◌∷◌, ◌++◌, length, take, drop, refl, sym, ap, subst, ◌∙◌, append_assoc, Option, Some, None}
 use Rattle.std.specs.List.{All}
-use Rattle.std.proofs.lemmas.List.{take_at, drop_at}
+use Rattle.std.proofs.lemmas.List.{append-nil, take_at, drop_at}
 use Rattle.std.proofs.lemmas.List.Elements.{All-head, All-tail}
 use Rattle.mcv_base.specs.declared.operation.Op.{Op}
 use Rattle.mcv_base.specs.Reply.{ReplyValue, hit, number}
@@ -64,24 +64,32 @@ said_one op key ClientError h g line x y = refl
 said_one op key ServerError h g line x y = refl
 said_one op key Version h g line x y = refl
 
--- behind the line of a value
-pub record HitRest (op : Op) (key : List ℕ) (head : Head) (x : List ℕ) (reply : ReplyValue) : Type 0 where
+-- behind a reply's first line
+pub line_heads : (own line x rest : List ℕ) → own ≡ line ++ 10 ∷ x → own ++ rest ≡ line ++ 10 ∷ (x ++ rest)
+line_heads own line x rest e = ap (λ t. t ++ rest) e ∙ append_assoc line (10 ∷ x) rest
+
+value_rest : (value last rest : List ℕ) → (value ++ 13 ∷ 10 ∷ (last ++ 10 ∷ [])) ++ rest ≡ value ++ 13 ∷ 10 ∷ (last ++ 10 ∷ rest)
+value_rest value last rest = append_assoc value (13 ∷ 10 ∷ (last ++ 10 ∷ [])) rest ∙ ap (λ t. value ++ 13 ∷ 10 ∷ t) (append_assoc last (10 ∷ []) rest)
+
+-- behind the line of a value: the value, its end, and then the rest
+pub record HitRest (op : Op) (key : List ℕ) (head : Head) (x rest : List ℕ) (reply : ReplyValue) : Type 0 where
   pub value : List ℕ
   pub last : List ℕ
   pub other : Head
   pub size : length value ≡ head.size
   pub last_is : IsLine rows.AfterValue key End other last
-  pub parts : x ≡ value ++ 13 ∷ 10 ∷ (last ++ 10 ∷ [])
+  pub parts : x ≡ value ++ 13 ∷ 10 ∷ (last ++ 10 ∷ rest)
   pub says : reply ≡ hit head.flags (cas_said (has_cas (rows.Reply op)) head.cas) value
 
 module _ (op : Op) (key : List ℕ) (clean : is_clean key ≡ true) where
-  pub value_goes : (head : Head) (line x : List ℕ) (reply : ReplyValue) → IsLine (rows.Reply op) key Value head line → Spells op key (line ++ 10 ∷ x) reply → HitRest op key head x reply
-  value_goes head line x reply is (alone s) =
-      let one = line_one line s.line x [] is.no_end s.line_is.no_end s.parts in
+  -- a reply, and then the rest, where a line of a value begins
+  pub value_heads : (head : Head) (line x own rest : List ℕ) (reply : ReplyValue) → IsLine (rows.Reply op) key Value head line → line ++ 10 ∷ x ≡ own ++ rest → Spells op key own reply → HitRest op key head x rest reply
+  value_heads head line x own rest reply is e (alone s) =
+      let one = line_one line s.line x rest is.no_end s.line_is.no_end (e ∙ line_heads own s.line [] rest s.parts) in
       let first : s.first ≡ Value = first_one (rows.Reply op) (rows.Reply op) key s.first Value s.head head line (subst (λ (t : List ℕ). IsLine (rows.Reply op) key s.first s.head t) (sym one.0) s.line_is) is in
       absurd (none_some (said_alone s.first s.head s.line) reply (ap (λ (t : Word). said_alone t s.head s.line) first) s.says)
-  value_goes head line x reply is (with_value s) =
-      let one = line_one line s.line x (s.value ++ 13 ∷ 10 ∷ (s.last ++ 10 ∷ [])) is.no_end s.line_is.no_end s.parts in
+  value_heads head line x own rest reply is e (with_value s) =
+      let one = line_one line s.line x ((s.value ++ 13 ∷ 10 ∷ (s.last ++ 10 ∷ [])) ++ rest) is.no_end s.line_is.no_end (e ∙ line_heads own s.line (s.value ++ 13 ∷ 10 ∷ (s.last ++ 10 ∷ [])) rest s.parts) in
       let same = value_one (rows.Reply op) key clean s.head head line (subst (λ (t : List ℕ). IsLine (rows.Reply op) key Value s.head t) (sym one.0) s.line_is) is in
       record {
         value = s.value;
@@ -89,11 +97,14 @@ module _ (op : Op) (key : List ℕ) (clean : is_clean key ≡ true) where
         other = s.other;
         size = s.size ∙ same.1;
         last_is = s.last_is;
-        parts = one.1;
+        parts = one.1 ∙ value_rest s.value s.last rest;
         says = s.says ∙ ap (λ t. hit t (cas_said (has_cas (rows.Reply op)) s.head.cas) s.value) same.0 ∙ ap (λ (t : Option ℕ). hit head.flags t s.value) (same_cas_said (has_cas (rows.Reply op)) s.head.cas head.cas same.2);
       }
 
-  pub value_back : (head : Head) (line x : List ℕ) (reply : ReplyValue) → IsLine (rows.Reply op) key Value head line → HitRest op key head x reply → Spells op key (line ++ 10 ∷ x) reply
+  pub value_goes : (head : Head) (line x : List ℕ) (reply : ReplyValue) → IsLine (rows.Reply op) key Value head line → Spells op key (line ++ 10 ∷ x) reply → HitRest op key head x [] reply
+  value_goes head line x reply is s = value_heads head line x (line ++ 10 ∷ x) [] reply is (sym (append-nil (line ++ 10 ∷ x))) s
+
+  pub value_back : (head : Head) (line x : List ℕ) (reply : ReplyValue) → IsLine (rows.Reply op) key Value head line → HitRest op key head x [] reply → Spells op key (line ++ 10 ∷ x) reply
   value_back head line x reply is r = with_value (record { head = head; line = line; value = r.value; last = r.last; line_is = is; size = r.size; other = r.other; last_is = r.last_is; parts = ap (λ t. line ++ 10 ∷ t) r.parts; says = r.says })
 
   -- behind a line that is a reply
@@ -123,6 +134,13 @@ module _ (op : Op) (key : List ℕ) (clean : is_clean key ≡ true) where
       let tails : s.last ++ 10 ∷ more ≡ r.last ++ 10 ∷ [] = ap (drop 2) values.1 in
       let lasts = line_one s.last r.last more [] s.last_is.no_end r.last_is.no_end tails in
       (lasts.1, s.says ∙ ap (hit s.head.flags (cas_said (has_cas (rows.Reply op)) s.head.cas)) values.0 ∙ sym r.says)
+
+  -- a reply, and then the rest, where the line and the value begin
+  pub last_heads : (head : Head) (line body y own rest : List ℕ) (reply : ReplyValue) → IsLine (rows.Reply op) key Value head line → length body ≡ head.size → line ++ 10 ∷ (body ++ y) ≡ own ++ rest → Spells op key own reply → (last : List ℕ) × (other : Head) × IsLine rows.AfterValue key End other last × (y ≡ 13 ∷ 10 ∷ (last ++ 10 ∷ rest))
+  last_heads head line body y own rest reply is size e s =
+      let r = value_heads head line (body ++ y) own rest reply is e s in
+      let values = same_length body r.value y (13 ∷ 10 ∷ (r.last ++ 10 ∷ rest)) (size ∙ sym r.size) r.parts in
+      (r.last, r.other, r.last_is, values.1)
 
   -- behind the line and the value
   pub last_goes : (head : Head) (line body y : List ℕ) (reply : ReplyValue) → IsLine (rows.Reply op) key Value head line → length body ≡ head.size → Spells op key (line ++ 10 ∷ (body ++ y)) reply → (last : List ℕ) × (other : Head) × IsLine rows.AfterValue key End other last × (y ≡ 13 ∷ 10 ∷ (last ++ 10 ∷ [])) × (reply ≡ hit head.flags (cas_said (has_cas (rows.Reply op)) head.cas) body)

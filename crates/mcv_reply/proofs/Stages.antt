@@ -1,6 +1,6 @@
 -- Steps of a reply that has come in part.
 use Rattle.std.proofs.Common.{◌≡◌, ◌≢◌, ℕ, suc, zero, ◌-◌, ◌<◌, ◌≤◌, ◌⊎◌, inl, inr, Bool, true, false, List, [], ◌∷◌, ◌++◌, length, get_or, drop, replicate, refl, sym, ap, subst, ◌∙◌, arith, append_assoc, length-append, Some, None}
-use Rattle.std.specs.List.{All, list_all}
+use Rattle.std.specs.List.{All, Contains, list_all}
 use Rattle.std.proofs.lemmas.Bool.{false≢true}
 use Rattle.std.proofs.lemmas.List.{append-nil, get_or_append_left, length-replicate}
 use Rattle.std.proofs.lemmas.List.Elements.{All-contains}
@@ -18,34 +18,34 @@ use Rattle.mcv_reply.specs.Word.{answers, has_cas}
 use Rattle.mcv_reply.specs.Line.{IsLine}
 use Rattle.mcv_reply.specs.Candidate.{IsKept, is_clean, zero_head}
 use Rattle.mcv_reply.specs.Reply.{Spells, alone, with_value, cas_said, said_alone}
-use Rattle.mcv_reply.specs.Reader.{BeginsNone, IsFront}
+use Rattle.mcv_reply.specs.Reader.{IsFront, IsNoReply}
 use Rattle.std.specs.Prelude.{codes}
 use Rattle.mcv_reply.proofs.OpenCandidates.{candidate_opens, clean_ends}
-use Rattle.mcv_reply.proofs.Spelling.{line_one, front_of_line, value_goes, value_back, last_goes}
+use Rattle.mcv_reply.proofs.Spelling.{line_one, line_heads, front_of_line, value_goes, value_back, last_goes, last_heads}
 
 -- no line of the row goes on from the bytes
 abbrev pub IsNoLine : Row → List ℕ → List ℕ → Type 0
 IsNoLine row key bytes = (first : Word) (head : Head) (more : List ℕ) → IsLine row key first head (bytes ++ more) → ⊥
 
 module _ (op : Op) (key : List ℕ) where
-  pub begins_more : (bytes x whole : List ℕ) → whole ≡ bytes ++ x → BeginsNone op key bytes → BeginsNone op key whole
-  begins_more bytes x whole e none more reply s = none (x ++ more) reply (subst (λ (t : List ℕ). Spells op key t reply) (ap (λ t. t ++ more) e ∙ append_assoc bytes x more) s)
+  pub begins_more : (bytes x whole : List ℕ) → whole ≡ bytes ++ x → IsNoReply op key bytes → IsNoReply op key whole
+  begins_more bytes x whole e none more own rest reply heads s = none (x ++ more) own rest reply (sym (ap (λ t. t ++ more) e ∙ append_assoc bytes x more) ∙ heads) s
 
-  pub no_line_begins : (bytes : List ℕ) → All (λ b. b ≢ 10) bytes → IsNoLine (rows.Reply op) key bytes → BeginsNone op key bytes
-  no_line_begins bytes clean none more reply (alone s) =
-      let f = front_of_line bytes more s.line [] clean s.parts in
+  pub no_line_begins : (bytes : List ℕ) → All (λ b. b ≢ 10) bytes → IsNoLine (rows.Reply op) key bytes → IsNoReply op key bytes
+  no_line_begins bytes clean none more own rest reply heads (alone s) =
+      let f = front_of_line bytes more s.line rest clean (heads ∙ line_heads own s.line [] rest s.parts) in
       none s.first s.head f.0 (subst (λ (t : List ℕ). IsLine (rows.Reply op) key s.first s.head t) f.1 s.line_is)
-  no_line_begins bytes clean none more reply (with_value s) =
-      let f = front_of_line bytes more s.line (s.value ++ 13 ∷ 10 ∷ (s.last ++ 10 ∷ [])) clean s.parts in
+  no_line_begins bytes clean none more own rest reply heads (with_value s) =
+      let f = front_of_line bytes more s.line ((s.value ++ 13 ∷ 10 ∷ (s.last ++ 10 ∷ [])) ++ rest) clean (heads ∙ line_heads own s.line (s.value ++ 13 ∷ 10 ∷ (s.last ++ 10 ∷ [])) rest s.parts) in
       none Value s.head f.0 (subst (λ (t : List ℕ). IsLine (rows.Reply op) key Value s.head t) f.1 s.line_is)
 
   -- a line has ended that is none
-  pub ended_wrong : (line : List ℕ) → All (λ b. b ≢ 10) line → ((first : Word) (head : Head) → IsLine (rows.Reply op) key first head line → ⊥) → (rest : List ℕ) → BeginsNone op key (line ++ 10 ∷ rest)
-  ended_wrong line clean none rest more reply (alone s) =
-      let one = line_one line s.line (rest ++ more) [] clean s.line_is.no_end (sym (append_assoc line (10 ∷ rest) more) ∙ s.parts) in
+  pub ended_wrong : (line : List ℕ) → All (λ b. b ≢ 10) line → ((first : Word) (head : Head) → IsLine (rows.Reply op) key first head line → ⊥) → (left : List ℕ) → IsNoReply op key (line ++ 10 ∷ left)
+  ended_wrong line clean none left more own rest reply heads (alone s) =
+      let one = line_one line s.line (left ++ more) rest clean s.line_is.no_end (sym (append_assoc line (10 ∷ left) more) ∙ heads ∙ line_heads own s.line [] rest s.parts) in
       none s.first s.head (subst (λ (t : List ℕ). IsLine (rows.Reply op) key s.first s.head t) (sym one.0) s.line_is)
-  ended_wrong line clean none rest more reply (with_value s) =
-      let one = line_one line s.line (rest ++ more) (s.value ++ 13 ∷ 10 ∷ (s.last ++ 10 ∷ [])) clean s.line_is.no_end (sym (append_assoc line (10 ∷ rest) more) ∙ s.parts) in
+  ended_wrong line clean none left more own rest reply heads (with_value s) =
+      let one = line_one line s.line (left ++ more) ((s.value ++ 13 ∷ 10 ∷ (s.last ++ 10 ∷ [])) ++ rest) clean s.line_is.no_end (sym (append_assoc line (10 ∷ left) more) ∙ heads ∙ line_heads own s.line (s.value ++ 13 ∷ 10 ∷ (s.last ++ 10 ∷ [])) rest s.parts) in
       none Value s.head (subst (λ (t : List ℕ). IsLine (rows.Reply op) key Value s.head t) (sym one.0) s.line_is)
 
   pub ended_right : (first : Word) (head : Head) (line : List ℕ) (reply : ReplyValue) → IsLine (rows.Reply op) key first head line → said_alone first head line ≡ Some reply → Spells op key (line ++ 10 ∷ []) reply
@@ -94,35 +94,35 @@ module _ (op : Op) (key : List ℕ) (clean : is_clean key ≡ true) (head : Head
   behind : (x y : List ℕ) → (line ++ 10 ∷ x) ++ y ≡ line ++ 10 ∷ (x ++ y)
   behind x y = append_assoc line (10 ∷ x) y
 
-  pub wrong_return : (piece : List ℕ) → length body ≡ head.size → 0 < length piece → get_or piece 0 0 ≢ 13 → BeginsNone op key ((line ++ 10 ∷ body) ++ piece)
-  wrong_return piece size some ne more reply s =
+  pub wrong_return : (piece : List ℕ) → length body ≡ head.size → 0 < length piece → get_or piece 0 0 ≢ 13 → IsNoReply op key ((line ++ 10 ∷ body) ++ piece)
+  wrong_return piece size some ne more own rest reply heads s =
       let whole : ((line ++ 10 ∷ body) ++ piece) ++ more ≡ line ++ 10 ∷ (body ++ (piece ++ more)) = append_assoc (line ++ 10 ∷ body) piece more ∙ behind body (piece ++ more) in
-      let r = last_goes op key clean head line body (piece ++ more) reply is size (subst (λ (t : List ℕ). Spells op key t reply) whole s) in
+      let r = last_heads op key clean head line body (piece ++ more) own rest reply is size (sym whole ∙ heads) s in
       ne (sym (get_or_append_left piece more 0 0 some) ∙ ap (λ t. get_or t 0 0) r.3)
 
-  pub wrong_line_feed : (piece : List ℕ) → length body ≡ head.size → 0 < length piece → get_or piece 0 0 ≢ 10 → BeginsNone op key ((line ++ 10 ∷ (body ++ 13 ∷ [])) ++ piece)
-  wrong_line_feed piece size some ne more reply s =
+  pub wrong_line_feed : (piece : List ℕ) → length body ≡ head.size → 0 < length piece → get_or piece 0 0 ≢ 10 → IsNoReply op key ((line ++ 10 ∷ (body ++ 13 ∷ [])) ++ piece)
+  wrong_line_feed piece size some ne more own rest reply heads s =
       let whole : ((line ++ 10 ∷ (body ++ 13 ∷ [])) ++ piece) ++ more ≡ line ++ 10 ∷ (body ++ 13 ∷ (piece ++ more)) = append_assoc (line ++ 10 ∷ (body ++ 13 ∷ [])) piece more ∙ behind (body ++ 13 ∷ []) (piece ++ more) ∙ ap (λ t. line ++ 10 ∷ t) (append_assoc body (13 ∷ []) (piece ++ more)) in
-      let r = last_goes op key clean head line body (13 ∷ (piece ++ more)) reply is size (subst (λ (t : List ℕ). Spells op key t reply) whole s) in
+      let r = last_heads op key clean head line body (13 ∷ (piece ++ more)) own rest reply is size (sym whole ∙ heads) s in
       ne (sym (get_or_append_left piece more 0 0 some) ∙ ap (λ t. get_or t 1 0) r.3)
 
   -- the last line
   pub last_whole : (x more : List ℕ) → (line ++ 10 ∷ (body ++ 13 ∷ 10 ∷ x)) ++ more ≡ line ++ 10 ∷ (body ++ 13 ∷ 10 ∷ (x ++ more))
   last_whole x more = behind (body ++ 13 ∷ 10 ∷ x) more ∙ ap (λ t. line ++ 10 ∷ t) (append_assoc body (13 ∷ 10 ∷ x) more)
 
-  pub no_last_begins : (x : List ℕ) → length body ≡ head.size → All (λ b. b ≢ 10) x → IsNoLine rows.AfterValue key x → BeginsNone op key (line ++ 10 ∷ (body ++ 13 ∷ 10 ∷ x))
-  no_last_begins x size no_end none more reply s =
-      let r = last_goes op key clean head line body (13 ∷ 10 ∷ (x ++ more)) reply is size (subst (λ (t : List ℕ). Spells op key t reply) (last_whole x more) s) in
-      let tails : x ++ more ≡ r.0 ++ 10 ∷ [] = ap (drop 2) r.3 in
-      let f = front_of_line x more r.0 [] no_end tails in
+  pub no_last_begins : (x : List ℕ) → length body ≡ head.size → All (λ b. b ≢ 10) x → IsNoLine rows.AfterValue key x → IsNoReply op key (line ++ 10 ∷ (body ++ 13 ∷ 10 ∷ x))
+  no_last_begins x size no_end none more own rest reply heads s =
+      let r = last_heads op key clean head line body (13 ∷ 10 ∷ (x ++ more)) own rest reply is size (sym (last_whole x more) ∙ heads) s in
+      let tails : x ++ more ≡ r.0 ++ 10 ∷ rest = ap (drop 2) r.3 in
+      let f = front_of_line x more r.0 rest no_end tails in
       none End r.1 f.0 (subst (λ (t : List ℕ). IsLine rows.AfterValue key End r.1 t) f.1 r.2)
 
-  pub last_wrong : (x : List ℕ) → length body ≡ head.size → All (λ b. b ≢ 10) x → ((first : Word) (h : Head) → IsLine rows.AfterValue key first h x → ⊥) → (rest : List ℕ) → BeginsNone op key ((line ++ 10 ∷ (body ++ 13 ∷ 10 ∷ x)) ++ 10 ∷ rest)
-  last_wrong x size no_end none rest more reply s =
-      let whole : ((line ++ 10 ∷ (body ++ 13 ∷ 10 ∷ x)) ++ 10 ∷ rest) ++ more ≡ line ++ 10 ∷ (body ++ 13 ∷ 10 ∷ (x ++ 10 ∷ (rest ++ more))) = append_assoc (line ++ 10 ∷ (body ++ 13 ∷ 10 ∷ x)) (10 ∷ rest) more ∙ last_whole x (10 ∷ (rest ++ more)) in
-      let r = last_goes op key clean head line body (13 ∷ 10 ∷ (x ++ 10 ∷ (rest ++ more))) reply is size (subst (λ (t : List ℕ). Spells op key t reply) whole s) in
-      let tails : x ++ 10 ∷ (rest ++ more) ≡ r.0 ++ 10 ∷ [] = ap (drop 2) r.3 in
-      let one = line_one x r.0 (rest ++ more) [] no_end r.2.no_end tails in
+  pub last_wrong : (x : List ℕ) → length body ≡ head.size → All (λ b. b ≢ 10) x → ((first : Word) (h : Head) → IsLine rows.AfterValue key first h x → ⊥) → (left : List ℕ) → IsNoReply op key ((line ++ 10 ∷ (body ++ 13 ∷ 10 ∷ x)) ++ 10 ∷ left)
+  last_wrong x size no_end none left more own rest reply heads s =
+      let whole : ((line ++ 10 ∷ (body ++ 13 ∷ 10 ∷ x)) ++ 10 ∷ left) ++ more ≡ line ++ 10 ∷ (body ++ 13 ∷ 10 ∷ (x ++ 10 ∷ (left ++ more))) = append_assoc (line ++ 10 ∷ (body ++ 13 ∷ 10 ∷ x)) (10 ∷ left) more ∙ last_whole x (10 ∷ (left ++ more)) in
+      let r = last_heads op key clean head line body (13 ∷ 10 ∷ (x ++ 10 ∷ (left ++ more))) own rest reply is size (sym whole ∙ heads) s in
+      let tails : x ++ 10 ∷ (left ++ more) ≡ r.0 ++ 10 ∷ rest = ap (drop 2) r.3 in
+      let one = line_one x r.0 (left ++ more) rest no_end r.2.no_end tails in
       none End r.1 (subst (λ (t : List ℕ). IsLine rows.AfterValue key End r.1 t) (sym one.0) r.2)
 
   pub last_right : (x : List ℕ) (other : Head) (reply : ReplyValue) → length body ≡ head.size → IsLine rows.AfterValue key End other x → reply ≡ hit head.flags (cas_said (has_cas (rows.Reply op)) head.cas) body → Spells op key ((line ++ 10 ∷ (body ++ 13 ∷ 10 ∷ x)) ++ 10 ∷ []) reply
@@ -255,6 +255,37 @@ module _ (op : Op) (key : List ℕ) (clean : is_clean key ≡ true) where
               (value_back op key clean head line (body ++ 13 ∷ 10 ∷ ((bytes ++ o.2) ++ 10 ∷ [])) reply is (record { value = body; last = bytes ++ o.2; other = o.1; size = l; last_is = last; parts = refl; says = refl })),
         ),
       )
+
+error_may : (op : Op) → Contains (answers op) Error
+error_may ops.Get = (2, omega arith, refl)
+error_may ops.Gets = (2, omega arith, refl)
+error_may ops.Set = (2, omega arith, refl)
+error_may ops.Add = (2, omega arith, refl)
+error_may ops.Replace = (2, omega arith, refl)
+error_may ops.Append = (2, omega arith, refl)
+error_may ops.Prepend = (2, omega arith, refl)
+error_may ops.Cas = (4, omega arith, refl)
+error_may ops.Delete = (2, omega arith, refl)
+error_may ops.Touch = (2, omega arith, refl)
+error_may ops.Incr = (2, omega arith, refl)
+error_may ops.Decr = (2, omega arith, refl)
+
+-- `ERROR` may answer each operation
+pub error_line : (op : Op) (key : List ℕ) → IsLine (rows.Reply op) key Error zero_head (codes "ERROR")
+error_line op key = record {
+  may = error_may op;
+  writes = record { gap = 0; written = codes "ERROR"; after = []; parts = refl; enough = omega arith; is = refl; rest = tt };
+  no_end = clean_ends (codes "ERROR") refl;
+  short = omega arith;
+}
+
+-- nothing is the front of a reply
+pub front_nothing : (op : Op) (key : List ℕ) → IsFront op key []
+front_nothing op key = (nothing_spelled, (codes "ERROR" ++ 10 ∷ [], _, ended_right op key Error zero_head (codes "ERROR") _ (error_line op key) refl))
+  where
+    nothing_spelled : (reply : ReplyValue) → Spells op key [] reply → ⊥
+    nothing_spelled reply (alone s) = omega (arith, ap length s.parts, length-append s.line (10 ∷ []))
+    nothing_spelled reply (with_value s) = omega (arith, ap length s.parts, length-append s.line (10 ∷ (s.value ++ 13 ∷ 10 ∷ (s.last ++ 10 ∷ []))))
 
 -- a line that is no reply alone is that of a value, or answers a probe
 unsaid : (first : Word) (head : Head) (line : List ℕ) → said_alone first head line ≡ None → (first ≡ Value) ⊎ (first ≡ Version)

@@ -7,7 +7,6 @@ use Rattle.std.proofs.lemmas.List.{append-nil, take-append-drop, drop_more, leng
 use Rattle.std.proofs.lemmas.List.Elements.{All-from_get_or}
 use Rattle.memchr.specs.Find.{IsFirstByte, is_byte}
 use Rattle.mcv_base.specs.declared.operation.Op.{Op}
-use Rattle.mcv_base.specs.declared.operation.Op.TheVariants as ops
 use Rattle.mcv_base.specs.declared.reply.Reply.{Reply}
 use Rattle.mcv_base.specs.Reply.{ReplyValue, hit, reply_value}
 use Rattle.mcv_reply.specs.declared.word.Word.{Word}
@@ -26,11 +25,10 @@ use Rattle.mcv_reply.specs.Word.{answers, has_cas}
 use Rattle.mcv_reply.specs.Line.{IsLine}
 use Rattle.mcv_reply.specs.Candidate.{GoesOn, IsKept, is_clean, zero_head}
 use Rattle.mcv_reply.specs.Reply.{Spells, cas_said}
-use Rattle.mcv_reply.specs.Reader.{ReaderState, Fed, Answered, Answers, FeedsAt, IsFront, BeginsNone}
+use Rattle.mcv_reply.specs.Reader.{ReaderState, Fed, Answers, FeedsAt, IsFront, BeginsNone, IsNoReply}
 use Rattle.mcv_reply.specs.Progress.{bytes_at, HitMade, IsAt, IsAtStage, LastEnds, FirstEnds, ReadsPiece, StepMakes, Steps, reader_state_at}
 use Rattle.mcv_reply.proofs.Spelling.{replies_one}
-use Rattle.mcv_reply.proofs.OpenCandidates.{clean_ends}
-use Rattle.mcv_reply.proofs.Stages.{front_last, front_line, front_return, front_value, begins_more, end_line, last_right, last_whole, no_last_begins, no_line_begins, only_end}
+use Rattle.mcv_reply.proofs.Stages.{error_line, front_nothing, front_last, front_line, front_return, front_value, begins_more, end_line, last_right, last_whole, no_last_begins, no_line_begins, only_end}
 
 -- no LF is found
 pub no_end_found : (piece : List ℕ) → IsFirstByte (is_byte 10) piece None → All (λ b. b ≢ 10) piece
@@ -61,27 +59,8 @@ kept_some row key candidates first head line kept is = let any = kept.to first h
 pub last_some : (key : List ℕ) (candidates : List Candidate) → IsKept rows.AfterValue key [] candidates → 0 < length candidates
 last_some key candidates kept = kept_some rows.AfterValue key candidates End zero_head (codes "END") kept (end_line key)
 
-error_may : (op : Op) → (k : ℕ) × (k < length (answers op)) × (get_or (answers op) k Error ≡ Error)
-error_may ops.Get = (2, omega arith, refl)
-error_may ops.Gets = (2, omega arith, refl)
-error_may ops.Set = (2, omega arith, refl)
-error_may ops.Add = (2, omega arith, refl)
-error_may ops.Replace = (2, omega arith, refl)
-error_may ops.Append = (2, omega arith, refl)
-error_may ops.Prepend = (2, omega arith, refl)
-error_may ops.Cas = (4, omega arith, refl)
-error_may ops.Delete = (2, omega arith, refl)
-error_may ops.Touch = (2, omega arith, refl)
-error_may ops.Incr = (2, omega arith, refl)
-error_may ops.Decr = (2, omega arith, refl)
-
 pub first_some : (op : Op) (key : List ℕ) (candidates : List Candidate) → IsKept (rows.Reply op) key [] candidates → 0 < length candidates
-first_some op key candidates kept = kept_some (rows.Reply op) key candidates Error zero_head (codes "ERROR") kept (record {
-  may = error_may op;
-  writes = record { gap = 0; written = codes "ERROR"; after = []; parts = refl; enough = omega arith; is = refl; rest = tt };
-  no_end = clean_ends (codes "ERROR") refl;
-  short = omega arith;
-})
+first_some op key candidates kept = kept_some (rows.Reply op) key candidates Error zero_head (codes "ERROR") kept (error_line op key)
 
 -- no candidate is left
 pub none_left : (row : Row) (key bytes : List ℕ) (candidates : List Candidate) → IsKept row key bytes candidates → length candidates ≡ 0 → (first : Word) (head : Head) (more : List ℕ) → IsLine row key first head (bytes ++ more) → ⊥
@@ -97,7 +76,7 @@ line_fault op key old front x piece Memory bytes candidates new clean cut none =
 pub first_fault : (op : Op) (key old front x piece line : List ℕ) (fault : ReplyFault) (p new : Progress) → piece ≡ front ++ 10 ∷ x → line ≡ old ++ front → FirstEnds op key line (Err fault) p → Steps op key old piece (Err fault) new
 first_fault op key old front x piece line NotAReply p new cut is none =
     let whole : old ++ piece ≡ line ++ 10 ∷ x = ap (λ t. old ++ t) cut ∙ sym (append_assoc old front (10 ∷ x)) ∙ ap (λ t. t ++ 10 ∷ x) (sym is) in
-    subst (λ (t : List ℕ). BeginsNone op key t) (sym whole) (none x)
+    subst (λ (t : List ℕ). IsNoReply op key t) (sym whole) (none x)
 first_fault op key old front x piece line Closed p new cut is none = none
 first_fault op key old front x piece line Memory p new cut is none = tt
 
@@ -117,7 +96,7 @@ module _ (op : Op) (key : List ℕ) (clean : is_clean key ≡ true) (head : Head
   pub last_fault : (old front x piece text bytes : List ℕ) (fault : ReplyFault) (new : Progress) → piece ≡ front ++ 10 ∷ x → text ≡ old ++ front → bytes ≡ line ++ 10 ∷ (body ++ 13 ∷ 10 ∷ text) → LastEnds op key bytes (Err fault) → Steps op key (line ++ 10 ∷ (body ++ 13 ∷ 10 ∷ old)) piece (Err fault) new
   last_fault old front x piece text bytes NotAReply new cut is_text is_bytes none =
       let whole : (line ++ 10 ∷ (body ++ 13 ∷ 10 ∷ old)) ++ piece ≡ bytes ++ 10 ∷ x = ap (λ t. (line ++ 10 ∷ (body ++ 13 ∷ 10 ∷ old)) ++ t) cut ∙ sym (append_assoc (line ++ 10 ∷ (body ++ 13 ∷ 10 ∷ old)) front (10 ∷ x)) ∙ ap (λ t. t ++ 10 ∷ x) (last_more old front ∙ ap (λ t. line ++ 10 ∷ (body ++ 13 ∷ 10 ∷ t)) (sym is_text) ∙ sym is_bytes) in
-      subst (λ (t : List ℕ). BeginsNone op key t) (sym whole) (none x)
+      subst (λ (t : List ℕ). IsNoReply op key t) (sym whole) (none x)
   last_fault old front x piece text bytes Closed new cut is_text is_bytes none = none
   last_fault old front x piece text bytes Memory new cut is_text is_bytes none = tt
 
@@ -152,7 +131,7 @@ same_fed a b e = cc
 
 -- a fault of a step is one of the piece
 pub step_fault : (op : Op) (key now left whole : List ℕ) (fault : ReplyFault) (new last : Progress) → now ++ left ≡ whole → Steps op key now left (Err fault) new → ReadsPiece op key whole (Err fault) last
-step_fault op key now left whole NotAReply new last e none = subst (λ (t : List ℕ). BeginsNone op key t) e none
+step_fault op key now left whole NotAReply new last e none = λ more reply s. none more (whole ++ more) [] reply (ap (λ t. t ++ more) e ∙ sym (append-nil (whole ++ more))) s
 step_fault op key now left whole Closed new last e none = none
 step_fault op key now left whole Memory new last e none = tt
 
@@ -179,6 +158,7 @@ step_rest now left whole used e = append_assoc now (take used left) (drop used l
 
 -- what has been fed is the front of a reply
 pub is_front : (op : Op) (key : List ℕ) (p : Progress) (stage : Stage) (bytes : List ℕ) → is_clean key ≡ true → IsAtStage op key p stage → reader_state_at stage p ≡ Fed bytes → IsFront op key bytes
+is_front op key p stages.Start bytes clean at e = subst (λ (t : List ℕ). IsFront op key t) (same_fed _ bytes e) (front_nothing op key)
 is_front op key p stages.Line bytes clean at e = subst (λ (t : List ℕ). IsFront op key t) (same_fed _ bytes e) (front_line op key clean p.text.items p.candidates.items at.0 at.1)
 is_front op key p stages.Value bytes clean at e = subst (λ (t : List ℕ). IsFront op key t) (same_fed _ bytes e) (front_value op key clean p.head p.first.items p.body.items at.0 at.1)
 is_front op key p stages.Return bytes clean at e = subst (λ (t : List ℕ). IsFront op key t) (same_fed _ bytes e) (front_return op key clean p.head p.first.items p.body.items at.0 at.1)
@@ -187,11 +167,12 @@ is_front op key p stages.Answered bytes clean at e = absurd (cc)
 is_front op key p stages.Closed bytes clean at e = absurd (cc)
 
 -- bytes have been fed, and no answer has been given
-pub fed_at : (p : Progress) (stage : Stage) → (stage ≡ stages.Line) ⊎ (stage ≡ stages.Value) ⊎ (stage ≡ stages.Return) ⊎ (stage ≡ stages.Last) → (bytes : List ℕ) × (reader_state_at stage p ≡ Fed bytes)
-fed_at p stage (inl e) = (bytes_at stages.Line p, ap (λ (s : Stage). reader_state_at s p) e)
-fed_at p stage (inr (inl e)) = (bytes_at stages.Value p, ap (λ (s : Stage). reader_state_at s p) e)
-fed_at p stage (inr (inr (inl e))) = (bytes_at stages.Return p, ap (λ (s : Stage). reader_state_at s p) e)
-fed_at p stage (inr (inr (inr e))) = (bytes_at stages.Last p, ap (λ (s : Stage). reader_state_at s p) e)
+pub fed_at : (p : Progress) (stage : Stage) → (stage ≡ stages.Start) ⊎ (stage ≡ stages.Line) ⊎ (stage ≡ stages.Value) ⊎ (stage ≡ stages.Return) ⊎ (stage ≡ stages.Last) → (bytes : List ℕ) × (reader_state_at stage p ≡ Fed bytes)
+fed_at p stage (inl e) = (bytes_at stages.Start p, ap (λ (s : Stage). reader_state_at s p) e)
+fed_at p stage (inr (inl e)) = (bytes_at stages.Line p, ap (λ (s : Stage). reader_state_at s p) e)
+fed_at p stage (inr (inr (inl e))) = (bytes_at stages.Value p, ap (λ (s : Stage). reader_state_at s p) e)
+fed_at p stage (inr (inr (inr (inl e)))) = (bytes_at stages.Return p, ap (λ (s : Stage). reader_state_at s p) e)
+fed_at p stage (inr (inr (inr (inr e)))) = (bytes_at stages.Last p, ap (λ (s : Stage). reader_state_at s p) e)
 
 -- what has been fed, of a reader that has answered nothing, answers the piece
 pub feeds_at : (op : Op) (key : List ℕ) (old new : ReaderState) (piece : List ℕ) (result : Result (Option Reply) ReplyFault) (fed : (bytes : List ℕ) × (old ≡ Fed bytes)) → ((bytes : List ℕ) → old ≡ Fed bytes → Answers op key (bytes ++ piece) result new) → FeedsAt op key old piece result new

@@ -6,3 +6,5 @@ pub mod Reader
 pub mod PlainLine
 pub mod Progress
 pub mod Probe
+pub mod Replies
+pub mod Flight

@@ -1,5 +1,5 @@
 -- The first line of a reply as servers write it: single spaces, and a CR at its end. Only private functions speak of this; what a line is, Line alone says.
-use Rattle.std.specs.Prelude.{◌≡◌, ℕ, ◌+◌, ◌<◌, List, [], ◌∷◌, ◌++◌, length, take, drop, Contains, codes}
+use Rattle.std.specs.Prelude.{◌≡◌, ℕ, ◌+◌, ◌<◌, ◌≤◌, List, [], ◌∷◌, ◌++◌, length, take, drop, Contains, codes}
 use Rattle.mcv_base.specs.declared.operation.Op.{Op}
 use Rattle.mcv_reply.specs.declared.word.Word.{Word}
 use Rattle.mcv_reply.specs.declared.word.Tail.TheVariants as tails
@@ -20,9 +20,8 @@ pub record IsBareWord (op : Op) (first : Word) (line : List ℕ) : Type 0 where
   pub tail : tail_of first ≡ tails.Nothing
   pub parts : line ≡ word_text first ++ 13 ∷ []
 
--- nothing of the line has come, and the piece has it whole
-pub record StartsLine (op : Op) (key text piece : List ℕ) (end : ℕ) (said : Meaning) : Type 0 where
-  pub none : text ≡ []
+-- the piece has the line whole at its front
+pub record StartsLine (op : Op) (key piece : List ℕ) (end : ℕ) (said : Meaning) : Type 0 where
   pub within : end < length piece
   pub cut : piece ≡ take end piece ++ 10 ∷ drop (end + 1) piece
   pub taken : take (end + 1) piece ≡ take end piece ++ 10 ∷ []
@@ -32,7 +31,7 @@ pub record StartsLine (op : Op) (key text piece : List ℕ) (end : ℕ) (said : 
 abbrev pub value_end : List ℕ
 value_end = 13 ∷ 10 ∷ (codes "END" ++ 13 ∷ 10 ∷ [])
 
--- the piece is what the value lacks, and the end
+-- the piece begins with what the value lacks, and the end
 pub record EndsValue (missing : ℕ) (piece : List ℕ) : Type 0 where
-  pub within : missing < length piece
-  pub parts : piece ≡ take missing piece ++ value_end
+  pub within : missing + 7 ≤ length piece
+  pub taken : take (missing + 7) piece ≡ take missing piece ++ value_end

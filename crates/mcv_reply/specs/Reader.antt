@@ -28,6 +28,10 @@ pub record Reading : Type 0 where
 abbrev pub BeginsNone : Op → List ℕ → List ℕ → Type 0
 BeginsNone op key bytes = (more : List ℕ) (reply : ReplyValue) → Spells op key (bytes ++ more) reply → ⊥
 
+-- the bytes begin with no reply, and none goes on from them
+abbrev pub IsNoReply : Op → List ℕ → List ℕ → Type 0
+IsNoReply op key bytes = (more own rest : List ℕ) (reply : ReplyValue) → bytes ++ more ≡ own ++ rest → Spells op key own reply → ⊥
+
 -- the bytes are the front of a reply, and none themselves
 abbrev pub IsFront : Op → List ℕ → List ℕ → Type 0
 IsFront op key bytes = ((reply : ReplyValue) → Spells op key bytes reply → ⊥) × ((more : List ℕ) × (reply : ReplyValue) × Spells op key (bytes ++ more) reply)

@@ -16,7 +16,7 @@ use memchr::memchr;
 const RETURN: &[u8] = b"\r";
 
 /// What comes behind this text at the front of the bytes.
-fn behind<'a>(bytes: &'a [u8], text: &[u8]) -> Option<&'a [u8]>
+pub fn behind<'a>(bytes: &'a [u8], text: &[u8]) -> Option<&'a [u8]>
     ensures { IfSome result (λ left. bytes.now ≡ text.now ++ left.now) }
 {
     bytes.strip_prefix(text)
@@ -161,13 +161,10 @@ fn plainly_said(op: Op, key: &[u8], line: &[u8]) -> Option<Meaning>
     }
 }
 
-/// The place of the LF and what the line says, where the piece has the first line whole, as servers write it.
-pub fn plain_line(op: Op, key: &[u8], text: &[u8], piece: &[u8]) -> Option<(usize, Meaning)>
-    ensures { IfSome result (λ r. StartsLine op key.now text.now piece.now r.0 r.1) }
+/// The place of the LF and what the line says, where the piece begins with a first line as servers write it.
+pub fn plain_line(op: Op, key: &[u8], piece: &[u8]) -> Option<(usize, Meaning)>
+    ensures { IfSome result (λ r. StartsLine op key.now piece.now r.0 r.1) }
 {
-    if !text.is_empty() {
-        return None;
-    }
     let end = memchr(b'\n', piece)?;
     let said = plainly_said(op, key, &piece[..end])?;
     Some((end, said))

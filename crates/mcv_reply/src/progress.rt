@@ -3,19 +3,20 @@
 //! It keeps what the line so far has said, so that no byte is looked at again when the next piece
 //! comes; a value is taken by its length (specs/Progress.antt says what is kept so).
 
-ghost use Rattle.std.specs.Prelude.{◌≡◌, ◌<◌, ◌≤◌, ◌+◌, ℕ, List, IfOk, IsTrue, MatchOption, length, true, Some, None};
+ghost use Rattle.std.specs.Prelude.{◌≡◌, ◌↔◌, ◌<◌, ◌≤◌, ◌+◌, ℕ, List, [], IfOk, IsTrue, MatchOption, length, true, Some, None};
 ghost use Rattle.mcv_base.specs.Reply.{reply_value};
 ghost use Rattle.mcv_reply.specs.Line.{IsLine};
 ghost use Rattle.mcv_reply.specs.Candidate.{IsKept, is_clean};
 ghost use Rattle.mcv_reply.specs.PlainLine.{EndsValue, StartsLine};
 ghost use Rattle.mcv_reply.specs.Reply.{said_alone};
 ghost use Rattle.mcv_reply.specs.Reader.{Fed};
+ghost use Rattle.mcv_reply.specs.Flight.{HasCome, is_over};
 ghost use Rattle.mcv_reply.specs.Progress.{FirstEnds, HitMade, IsAt, IsAtStage, LastEnds, Steps, bytes_at, reader_state_at};
 
 use crate::candidate::Head;
 use crate::fault::ReplyFault;
 use crate::line::{Candidates, Meaning, candidates, go_on, said, without_return};
-use crate::plain::plain_line;
+use crate::plain::{behind, plain_line};
 use crate::word::{Row, Word};
 use mcv_base::{Op, Reply};
 use memchr::memchr;
@@ -29,7 +30,9 @@ const VALUE_END: &[u8] = b"\r\nEND\r\n";
 /// What of a reply is being read.
 #[derive(Clone, Copy, PartialEq, Eq)]
 pub enum Stage {
-    /// The first line.
+    /// The first line, of which nothing has come.
+    Start,
+    /// The first line, of which some has come.
     Line,
     /// The value.
     Value,
@@ -43,6 +46,18 @@ pub enum Stage {
     Closed,
 }
 
+impl Stage {
+    /// Whether nothing is read any more.
+    pub fn is_over(self) -> bool
+        ensures { result ≡ is_over self }
+    {
+        match self {
+            Stage::Start | Stage::Line | Stage::Value | Stage::Return | Stage::Last => false,
+            Stage::Answered | Stage::Closed => true,
+        }
+    }
+}
+
 /// A reply that has come in part.
 #[derive(Drop)]
 pub struct Progress {
@@ -54,6 +69,38 @@ pub struct Progress {
     pub first: Vec<u8>,
     pub head: Head,
     pub body: Vec<u8>,
+}
+
+impl Progress {
+    /// A reply of which nothing has come. It takes no memory.
+    pub fn new(alloc: Global) -> Progress
+        ensures { result.stage ≡ Stage.Start }
+    {
+        Progress {
+            stage: Stage::Start,
+            text: Vec::new(alloc),
+            candidates: Candidates::new(),
+            first: Vec::new(alloc),
+            head: Head {
+                flags: 0,
+                size: 0,
+                cas: 0,
+                count: 0,
+            },
+            body: Vec::new(alloc),
+        }
+    }
+
+    /// Whether some of the reply has come.
+    pub fn has_begun(&self) -> bool
+        ensures { IsTrue result ↔ HasCome self.now.stage self.now }
+    {
+        match self.stage {
+            Stage::Line => !self.text.is_empty(),
+            Stage::Value | Stage::Return | Stage::Last => true,
+            Stage::Start | Stage::Answered | Stage::Closed => false,
+        }
+    }
 }
 
 /// What one step made of a piece: the bytes used, and the reply where it has come whole.
@@ -320,7 +367,7 @@ fn in_last(
     }
 }
 
-/// A piece that has the first line whole, which says this.
+/// A piece that begins with the first line, which says this.
 fn line_whole(
     alloc: Global,
     op: Op,
@@ -330,8 +377,8 @@ fn line_whole(
     end: usize,
     said: Meaning,
 ) -> Result<Step, ReplyFault>
-    requires { StartsLine op key.now progress.old.text.items piece.now end said }
-    ensures { Steps op key.now (bytes_at Stage.Line progress.old) piece.now result progress.new }
+    requires { StartsLine op key.now piece.now end said }
+    ensures { Steps op key.now [] piece.now result progress.new }
 {
     let Ok(line) = Vec::from_slice(alloc, &piece[..end]) else {
         return Err(ReplyFault::Memory);
@@ -343,8 +390,21 @@ fn line_whole(
     })
 }
 
-/// A piece that comes while the first line is read, at a stroke where it has the line whole, as servers write it.
-fn first_line(
+/// The first line, which isn't written as servers write it, is to be read.
+fn begin_line(op: Op, key: &[u8], progress: &mut Progress)
+    requires clean { is_clean key.now ≡ true }
+    requires short { length key.now ≤ 250 }
+    ensures stage { progress.new.stage ≡ Stage.Line }
+    ensures none { progress.new.text.items ≡ [] }
+    ensures at { IsAtStage op key.now progress.new Stage.Line }
+{
+    progress.text.clear();
+    progress.candidates = candidates(Row::Reply(op), key);
+    progress.stage = Stage::Line;
+}
+
+/// The first piece of a reply, the first line at a stroke where the piece begins with it, as servers write it.
+fn at_start(
     alloc: Global,
     op: Op,
     key: &[u8],
@@ -352,28 +412,30 @@ fn first_line(
     piece: &[u8],
 ) -> Result<Step, ReplyFault>
     requires clean { is_clean key.now ≡ true }
+    requires short { length key.now ≤ 250 }
     requires some { 0 < length piece.now }
-    requires stage { progress.old.stage ≡ Stage.Line }
-    requires at { IsAtStage op key.now progress.old Stage.Line }
-    ensures { Steps op key.now (bytes_at Stage.Line progress.old) piece.now result progress.new }
+    ensures { Steps op key.now [] piece.now result progress.new }
 {
-    match plain_line(op, key, progress.text.as_slice(), piece) {
+    match plain_line(op, key, piece) {
         Some((end, said)) => line_whole(alloc, op, key, progress, piece, end, said),
-        None => in_line(alloc, op, key, progress, piece),
+        None => {
+            begin_line(op, key, progress);
+            in_line(alloc, op, key, progress, piece)
+        }
     }
 }
 
-/// Whether the piece is what the value lacks, and the end as servers write it.
+/// Whether the piece begins with what the value lacks, and the end as servers write it.
 fn ends_value(missing: usize, piece: &[u8]) -> bool
     ensures { IsTrue result → EndsValue missing piece.now }
 {
     if missing >= piece.len() {
         return false;
     }
-    &piece[missing..] == VALUE_END
+    behind(&piece[missing..], VALUE_END).is_some()
 }
 
-/// A piece that is all that a reply with a value lacks.
+/// A piece that begins with all that a reply with a value lacks.
 fn value_whole(
     alloc: Global,
     op: Op,
@@ -393,12 +455,12 @@ fn value_whole(
     };
     let reply = hit(alloc, Row::Reply(op).has_cas(), progress.head, body)?;
     Ok(Step {
-        used: piece.len(),
+        used: missing + VALUE_END.len(),
         reply: Some(reply),
     })
 }
 
-/// A piece that comes while the value is read, at a stroke where the reply ends with it, as servers write it.
+/// A piece that comes while the value is read, at a stroke where the reply ends in it, as servers write it.
 fn value_piece(
     alloc: Global,
     op: Op,
@@ -437,7 +499,8 @@ pub fn take_step(
     ensures steps { (bytes : List ℕ) → reader_state_at progress.old.stage progress.old ≡ Fed bytes → Steps op key.now bytes piece.now result progress.new }
 {
     match progress.stage {
-        Stage::Line => first_line(alloc, op, key, progress, piece),
+        Stage::Start => at_start(alloc, op, key, progress, piece),
+        Stage::Line => in_line(alloc, op, key, progress, piece),
         Stage::Value => value_piece(alloc, op, key, progress, piece),
         Stage::Return => at_return(op, key, progress, piece),
         Stage::Last => in_last(alloc, op, key, progress, piece),

@@ -6,11 +6,8 @@ ghost use Rattle.mcv_reply.specs.Candidate.{is_clean};
 ghost use Rattle.mcv_reply.specs.Reader.{Answers, Fed, Feeds, Reading};
 ghost use Rattle.mcv_reply.specs.Progress.{IsAt, ReadsPiece, reader_state_at};
 
-use crate::candidate::Head;
 use crate::fault::ReplyFault;
-use crate::line::candidates;
 use crate::progress::{Progress, Stage, Step, take_step};
-use crate::word::Row;
 use mcv_base::{Op, Reply, Rest};
 use std::alloc::Global;
 use std::marker::Model;
@@ -104,24 +101,11 @@ impl ReplyReader {
     pub fn new(alloc: Global, op: Op, rest: Arc<Rest>) -> ReplyReader
         ensures { result ≡ record { op = op; key = arc_value rest; state = Fed [] } }
     {
-        let candidates = candidates(Row::Reply(op), rest.as_bytes());
         ReplyReader {
             alloc,
             op,
             rest,
-            progress: Progress {
-                stage: Stage::Line,
-                text: Vec::new(alloc),
-                candidates,
-                first: Vec::new(alloc),
-                head: Head {
-                    flags: 0,
-                    size: 0,
-                    cas: 0,
-                    count: 0,
-                },
-                body: Vec::new(alloc),
-            },
+            progress: Progress::new(alloc),
         }
     }
 
@@ -136,7 +120,7 @@ impl ReplyReader {
                 Err(ReplyFault::NotAReply)
             }
             Stage::Closed => Err(ReplyFault::Closed),
-            Stage::Line | Stage::Value | Stage::Return | Stage::Last => {
+            Stage::Start | Stage::Line | Stage::Value | Stage::Return | Stage::Last => {
                 take_piece(
                     self.alloc,
                     self.op,

@@ -1,5 +1,7 @@
+pub mod Driving
 mod Examples
-pub mod Exchanges
 pub mod Items
+pub mod Life
 pub mod Pieces
 pub mod Serving
+pub mod Turning

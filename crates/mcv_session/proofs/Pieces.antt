@@ -27,7 +27,7 @@ or_true : (b : Bool) → (b || true) ≡ true
 or_true true = refl
 or_true false = refl
 
-or_false : (a b : Bool) → (a || b) ≡ false → (a ≡ false) × (b ≡ false)
+pub or_false : (a b : Bool) → (a || b) ≡ false → (a ≡ false) × (b ≡ false)
 or_false true b e = absurd (cc)
 or_false false b e = (refl, e)
 
@@ -58,7 +58,7 @@ still_open law from to piece items live reads flow = λ failed. elim (law (follo
   | inr e ↦ not_both (list_any ends items) (refused_ends items e) (goes_on items flow)
 ]
 
-taken_append : (xs ys : List ItemValue) → list_any ends xs ≡ false → taken (xs ++ ys) ≡ taken xs ++ taken ys
+pub taken_append : (xs ys : List ItemValue) → list_any ends xs ≡ false → taken (xs ++ ys) ≡ taken xs ++ taken ys
 taken_append [] ys e = refl
 taken_append (item ∷ xs) ys e =
     let both = or_false (ends item) (list_any ends xs) e in

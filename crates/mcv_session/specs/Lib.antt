@@ -1,6 +1,7 @@
 pub mod Desk
 pub mod Exchange
 pub mod Session
-pub mod State
 pub mod ServedSession
-pub mod Step
+pub mod Machine
+pub mod Turns
+pub mod Drive

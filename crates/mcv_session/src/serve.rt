@@ -1,13 +1,17 @@
 //! A session over a reader and a writer.
 
-ghost use Rattle.std.specs.Prelude.{◌≡◌, ◌<◌, ◌≤◌, [], ℕ, take, length, false, IfOk, IfErr, OnOk, MatchOption};
+ghost use Rattle.std.specs.Prelude.{◌≡◌, ◌<◌, ◌≤◌, [], ℕ, List, take, length, None, IfOk, IfErr, OnOk, OnErr, MatchOption};
 ghost use Rattle.std.specs.Io.KnownBytes.{Appends, Consumes, IsAtEnd};
 ghost use Rattle.mcv_session.specs.ServedSession.{IsServed, IsStopped, Stops};
-ghost use Rattle.mcv_session.specs.Session.{Serves};
+ghost use Rattle.mcv_session.specs.Machine.{IsIdle};
+ghost use Rattle.mcv_session.specs.Session.{Breaks, Serves};
 
 use crate::desk::Desk;
+use crate::drive::drive;
 use crate::laws::nothing_read;
-use crate::session::{Flow, Session};
+use crate::machine::Machine;
+use crate::phase::Phase;
+use crate::session::{Flow, SessionFault};
 use mcv_text::any_pieces;
 use std::alloc::{AllocError, Global};
 use std::io::{ErrorKind, Read, Write};
@@ -59,23 +63,43 @@ fn next_piece<R: Read>(reader: &mut R, room: &mut [u8]) -> Result<Option<usize>,
     }
 }
 
+/// Answers a piece.
+fn answer_piece<D: Desk>(
+    session: &mut Machine,
+    desk: &mut D,
+    piece: &[u8],
+) -> Result<Flow, SessionFault>
+    requires { IsIdle session.old }
+    ensures ok { IfOk result (λ flow. Serves D.asks desk.old desk.new session.old.reader piece.now session.new.output flow session.new.reader) }
+    ensures live { IfOk result (λ flow. flow ≡ Flow.GoesOn → (session.new.phase ≡ Phase.Open) × (session.new.request ≡ None) × (session.new.waiting ≡ [])) }
+    ensures err { OnErr result (Breaks D.asks desk.old desk.new session.old.reader piece.now session.new.output) }
+{
+    session.feed(piece)?;
+    drive(session, desk)?;
+    match session.phase() {
+        Phase::Open => Ok(Flow::GoesOn),
+        Phase::Ended => Ok(Flow::Ends),
+        Phase::Failed => Err(SessionFault::Memory),
+    }
+}
+
 /// Answers a piece, and writes the answers with one write.
 fn serve_piece<W: Write, D: Desk>(
-    session: &mut Session,
+    session: &mut Machine,
     writer: &mut W,
     desk: &mut D,
     piece: &[u8],
 ) -> Result<Flow, ServeFault>
-    requires { session.old.has_ended ≡ false }
-    ensures ok { IfOk result (λ flow. Serves D.asks desk.old desk.new session.old.reader piece.now session.new.text flow session.new.reader) }
-    ensures text { OnOk result (Appends (W.contents writer.old) (W.contents writer.new) session.new.text) }
-    ensures live { IfOk result (λ flow. flow ≡ Flow.GoesOn → session.new.has_ended ≡ false) }
+    requires { IsIdle session.old }
+    ensures ok { IfOk result (λ flow. (text : List ℕ) × Serves D.asks desk.old desk.new session.old.reader piece.now text flow session.new.reader × Appends (W.contents writer.old) (W.contents writer.new) text) }
+    ensures live { IfOk result (λ flow. flow ≡ Flow.GoesOn → IsIdle session.new) }
     ensures err { IfErr result (λ fault. Stops D.asks fault desk.old desk.new session.old.reader piece.now (W.contents writer.old) (W.contents writer.new)) }
 {
-    let outcome = session.read(desk, piece);
-    if writer.write_all(session.text()).is_err() {
+    let outcome = answer_piece(session, desk, piece);
+    if writer.write_all(session.output()).is_err() {
         return Err(ServeFault::Write);
     }
+    session.wrote_all();
     match outcome {
         Ok(flow) => Ok(flow),
         Err(_) => Err(ServeFault::Memory),
@@ -100,7 +124,7 @@ pub fn serve_session<R: Read, W: Write, D: Desk>(
         return Err(ServeFault::Memory);
     };
     let room = bytes.as_mut_slice();
-    let mut session = Session::new(alloc);
+    let mut session = Machine::new(alloc);
     for _turn in 0..TURNS {
         let Some(count) = next_piece(reader, room)? else {
             return Ok(());

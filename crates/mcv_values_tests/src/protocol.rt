@@ -1,5 +1,6 @@
 //! Requests, legs and replies as bytes.
 
+mod flights;
 mod items;
 mod replies;
 mod threads;

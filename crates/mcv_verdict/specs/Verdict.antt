@@ -11,8 +11,10 @@ use Rattle.mcv_certify.specs.PickedReasons.{IsPickedOf}
 use Rattle.mcv_input.specs.Fault.{AreNamedBy}
 use Rattle.mcv_make.specs.FirstFinding.{IsFirstFinding}
 use Rattle.mcv_make.specs.ShownFinding.{IsShown}
-use Rattle.mcv_witness.specs.Finding.{FindingValue}
+use Rattle.mcv_witness.specs.Finding.{FindingValue, finding_of}
 use Rattle.mcv_witness.specs.Text.{finding_text}
+use Rattle.mcv_verdict.specs.declared.verdict.Judged.{Judged}
+use Rattle.mcv_verdict.specs.declared.verdict.Judged.TheVariants as judged
 use Rattle.mcv_verdict.specs.declared.verdict.Judgement.{Judgement}
 use Rattle.mcv_verdict.specs.declared.verdict.Judgement.TheVariants as judgements
 use Rattle.mcv_verdict.specs.declared.verdict.Verdict.{Verdict}
@@ -43,6 +45,20 @@ IsVerdict r Lost text = (f : FindingValue) × IsLossBy r f × (text ≡ finding_
 abbrev pub IsJudgement : RoutesValue → Judgement → Type 0
 IsJudgement r (judgements.Covered accepted certificate) = (accepted ≡ r) × AreCoveredBy r certificate × All (IsPickedOf r) certificate.pairs
 IsJudgement r (judgements.Lost finding) = IsVerdict r Lost finding.items
+
+-- the same, with the finding itself
+abbrev pub IsJudged : RoutesValue → Judged → Type 0
+IsJudged r (judged.Covered accepted certificate) = (accepted ≡ r) × AreCoveredBy r certificate × All (IsPickedOf r) certificate.pairs
+IsJudged r (judged.Lost routes finding) = (routes ≡ r) × IsLossBy r (finding_of finding)
+
+-- where a certificate's text is given: the routes are those that were accepted, and are covered by the pairs that it says
+abbrev pub IsJudgedBy : RoutesValue → (certificate : List ℕ) → Judged → Type 0
+IsJudgedBy r text (judged.Covered accepted certificate) = (accepted ≡ r) × Says text (pairs certificate.window certificate.pairs) × AreCoveredBy r certificate
+IsJudgedBy r text (judged.Lost routes finding) = ⊥
+
+abbrev pub IsJudgedFor : RoutesValue → (certificate : Option (List ℕ)) → Judged → Type 0
+IsJudgedFor r None found = IsJudged r found
+IsJudgedFor r (Some text) found = IsJudgedBy r text found
 
 -- where a certificate's text is given: it says pairs by which the routes are covered, and their number is written
 abbrev pub IsVerdictBy : RoutesValue → (certificate : List ℕ) → Verdict → (text : List ℕ) → Type 0

@@ -1,27 +1,24 @@
 //! The path from the bytes read to the bytes written.
 
-ghost use Rattle.std.specs.Prelude.{◌≡◌, ◌≢◌, ◌<◌, ◌++◌, ℕ, List, length, option_map, None, IfSome, IfOk, IfErr};
+ghost use Rattle.std.specs.Prelude.{◌≡◌, ◌≢◌, ◌++◌, ℕ, List, length, option_map, None, IfSome, IfOk, IfErr};
 ghost use Rattle.std.specs.Io.KnownBytes.{Appends};
 ghost use Rattle.mcv_cert.specs.Pair.{IsCertificate};
 ghost use Rattle.mcv_cert.specs.Text.{certificate_text};
 ghost use Rattle.mcv_input.specs.Fault.{AreNamedBy};
-ghost use Rattle.mcv_make.specs.FirstFinding.{IsFirstFinding};
-ghost use Rattle.mcv_make.specs.ShownFinding.{IsShown};
 ghost use Rattle.mcv_route.specs.Routes.{RoutesValue, within};
 ghost use Rattle.mcv_symbolic.specs.CoveredRoutes.{AreCovered};
 ghost use Rattle.mcv_verdict.specs.Fault.{IsRefusedBy, IsRefusedFor, IsRunFault, of_check};
 ghost use Rattle.mcv_verdict.specs.Text.{covered_line};
-ghost use Rattle.mcv_verdict.specs.Verdict.{IsJudgement, IsVerdict, IsVerdictBy, IsVerdictFor, IsVerdictOn};
-ghost use Rattle.mcv_witness.specs.Finding.{finding_of};
+ghost use Rattle.mcv_verdict.specs.Verdict.{IsJudged, IsJudgedBy, IsJudgedFor, IsJudgement, IsVerdict, IsVerdictBy, IsVerdictFor, IsVerdictOn};
 
 use crate::text::covered_line;
-use crate::verdict::{Judgement, Verdict};
+use crate::verdict::{Judged, Judgement, Verdict};
 use mcv_cert::{Certificate, read_certificate};
 use mcv_check::{Accepted, CheckFault, check};
 use mcv_input::{RunFault, read_configuration, write_text};
 use mcv_make::{MakeFault, make};
 use mcv_route::Routes;
-use mcv_witness::{Finding, finding_text};
+use mcv_witness::finding_text;
 use std::alloc::{AllocError, Global};
 use std::io::{Read, Write};
 
@@ -101,9 +98,24 @@ fn refused(fault: CheckFault) -> RunFault
     }
 }
 
-/// What is found of routes. Who made the certificate isn't trusted: it is checked like any other.
-fn judge_routes(alloc: Global, routes: Routes) -> Result<Judgement, RunFault>
-    ensures judged { IfOk result (IsJudgement routes) }
+/// That the checker accepted routes by a certificate.
+fn covered_by(accepted: Accepted, certificate: Certificate) -> Judged
+    ensures covered { AreCovered accepted }
+    ensures certificate { IsCertificate certificate }
+    ensures found { result ≡ Judged.Covered accepted certificate }
+{
+    // The routes are covered, and the pairs are those of a certificate.
+    let _ = accepted.routes();
+    let _ = certificate.pairs();
+    Judged::Covered {
+        accepted,
+        certificate,
+    }
+}
+
+/// What is found of routes by a certificate made here. Who made it isn't trusted: it is checked like any other.
+fn judge_made(alloc: Global, routes: Routes) -> Result<Judged, RunFault>
+    ensures judged { IfOk result (IsJudged routes) }
     ensures fault { IfErr result (λ fault. fault ≡ RunFault.Memory) }
 {
     match make(alloc, &routes) {
@@ -112,16 +124,52 @@ fn judge_routes(alloc: Global, routes: Routes) -> Result<Judgement, RunFault>
                 Ok(accepted) => accepted,
                 Err(fault) => return Err(refused(fault)),
             };
-            // The routes are covered, and the pairs are those of a certificate.
-            let _ = accepted.routes();
-            let _ = certificate.pairs();
-            Ok(Judgement::Covered {
-                accepted,
-                certificate,
-            })
+            Ok(covered_by(accepted, certificate))
         }
-        Err(MakeFault::Lost(finding)) => Ok(lost(alloc, &routes, &finding)?),
+        Err(MakeFault::Lost(finding)) => Ok(Judged::Lost { routes, finding }),
         Err(MakeFault::Memory) => Err(RunFault::Memory),
+    }
+}
+
+/// What is found of routes by the certificate that the text says.
+fn judge_said(alloc: Global, routes: Routes, text: &[u8]) -> Result<Judged, RunFault>
+    ensures judged { IfOk result (IsJudgedBy routes text.now) }
+    ensures fault { IfErr result (λ fault. IsRefusedBy routes text.now fault) }
+{
+    let certificate = read_certificate(alloc, text)?;
+    match check(alloc, routes, &certificate) {
+        Ok(accepted) => Ok(covered_by(accepted, certificate)),
+        Err(fault) => Err(refused(fault)),
+    }
+}
+
+/// What is found of routes, with what shows it: by the certificate whose text is given, or else by one made here.
+pub fn judge(alloc: Global, routes: Routes, certificate: Option<&[u8]>) -> Result<Judged, RunFault>
+    ensures judged { IfOk result (IsJudgedFor routes (option_map (λ given. given.now) certificate.entry)) }
+    ensures fault { IfErr result (λ fault. IsRefusedFor routes (option_map (λ given. given.now) certificate.entry) fault) }
+{
+    match certificate {
+        None => judge_made(alloc, routes),
+        Some(text) => judge_said(alloc, routes, text),
+    }
+}
+
+/// What is found of routes, with the text of what is lost.
+fn judge_routes(alloc: Global, routes: Routes) -> Result<Judgement, RunFault>
+    ensures judged { IfOk result (IsJudgement routes) }
+    ensures fault { IfErr result (λ fault. fault ≡ RunFault.Memory) }
+{
+    match judge_made(alloc, routes)? {
+        Judged::Covered {
+            accepted,
+            certificate,
+        } => Ok(Judgement::Covered {
+            accepted,
+            certificate,
+        }),
+        Judged::Lost { routes, finding } => Ok(Judgement::Lost {
+            finding: finding_text(alloc, &finding, &routes)?,
+        }),
     }
 }
 
@@ -188,17 +236,4 @@ fn covered_with(
     let text = certificate.text(alloc)?;
     output.text.extend_from_slice(text.as_slice())?;
     Ok(output)
-}
-
-/// What shows that a delete can be lost.
-fn lost(alloc: Global, routes: &Routes, finding: &Finding) -> Result<Judgement, AllocError>
-    requires uncovered { ¬ AreCovered routes.now }
-    requires known { finding.now.server.0 < length routes.now.servers }
-    requires first { IsFirstFinding routes.now (finding_of finding.now) }
-    requires shown { IsShown routes.now (finding_of finding.now) }
-    ensures { IfOk result (IsJudgement routes.now) }
-{
-    Ok(Judgement::Lost {
-        finding: finding_text(alloc, finding, routes)?,
-    })
 }

@@ -2,6 +2,8 @@
 
 use mcv_cert::Certificate;
 use mcv_check::Accepted;
+use mcv_route::Routes;
+use mcv_witness::Finding;
 
 /// The verdict on a configuration.
 #[derive(Clone, Copy, Debug, PartialEq, Eq)]
@@ -23,5 +25,20 @@ pub enum Judgement {
     /// The text of the first finding on them.
     Lost {
         finding: Vec<u8>,
+    },
+}
+
+/// What is found of routes, with what shows it.
+#[derive(Drop)]
+pub enum Judged {
+    /// They are covered, and the certificate says why.
+    Covered {
+        accepted: Accepted,
+        certificate: Certificate,
+    },
+    /// They aren't, and the finding shows it.
+    Lost {
+        routes: Routes,
+        finding: Finding,
     },
 }

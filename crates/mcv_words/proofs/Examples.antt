@@ -1,7 +1,7 @@
 -- What clap makes of short command lines.
 use Rattle.std.proofs.Common.{◌≡◌, [], ◌∷◌, ◌++◌, List, Option, Some, None, refl, codes, option_map}
 use Rattle.clap.specs.Words.{Row, Text, first_of, one_of}
-use Rattle.clap.specs.declared.error.kind.ErrorKind.TheVariants.{ArgumentConflict, DisplayHelp, DisplayVersion, InvalidSubcommand, MissingRequiredArgument, MissingSubcommand, UnknownArgument, ValueValidation}
+use Rattle.clap.specs.declared.error.kind.ErrorKind.TheVariants.{ArgumentConflict, DisplayHelp, DisplayVersion, InvalidSubcommand, MissingRequiredArgument, MissingSubcommand, TooManyValues, UnknownArgument, ValueValidation}
 use Rattle.clap.proofs.OnLiterals.{clap_on_literals}
 use Rattle.mcv_words.specs.Words.{faults, named}
 
@@ -131,6 +131,22 @@ mend_of_a_file : faults (codes "mcv" ∷ codes "mend" ∷ codes "mcrouter.json" 
 unfolding clap_on_literals
 mend_of_a_file = refl
 
+abbrev patch_of : Option (Text × List Row) → Option (Option Text)
+patch_of = option_map (λ p. one_of (codes "patch") p.1)
+
+patch_named : patch_of (named (codes "mcv" ∷ codes "mend" ∷ codes "--patch" ∷ [])) ≡ Some (Some (codes "true"))
+unfolding clap_on_literals
+patch_named = refl
+
+no_patch_named : patch_of (named (codes "mcv" ∷ codes "mend" ∷ [])) ≡ Some (Some (codes "false"))
+unfolding clap_on_literals
+no_patch_named = refl
+
+-- a flag takes no value
+patch_with_a_value : faults (codes "mcv" ∷ codes "mend" ∷ codes "--patch=x" ∷ []) ≡ TooManyValues ∷ []
+unfolding clap_on_literals
+patch_with_a_value = refl
+
 abbrev at_address : List Text
 at_address = codes "mcv" ∷ codes "run" ∷ codes "--listen" ∷ codes "h:1" ∷ []
 
@@ -172,6 +188,14 @@ timeouts_named : run_of (named (run_line ++ codes "--client-timeout" ∷ codes "
     ≡ Some (Some (codes "h:1"), Some (codes "f"), None, Some (codes "1"), Some (codes "0"), Some (codes "200"), Some (codes "3600000"))
 unfolding clap_on_literals
 timeouts_named = refl
+
+max_clients_named : option_map (λ (p : Text × List Row). one_of (codes "max-clients") p.1) (named (run_line ++ codes "--max-clients" ∷ codes "1000000" ∷ [])) ≡ Some (Some (codes "1000000"))
+unfolding clap_on_literals
+max_clients_named = refl
+
+no_clients : faults (run_line ++ codes "--max-clients" ∷ codes "0" ∷ []) ≡ ValueValidation ∷ []
+unfolding clap_on_literals
+no_clients = refl
 
 no_spool : faults at_address ≡ MissingRequiredArgument ∷ []
 unfolding clap_on_literals
@@ -222,3 +246,25 @@ no_file = refl
 two_files : faults (spool_line ++ codes "g" ∷ []) ≡ UnknownArgument ∷ []
 unfolding clap_on_literals
 two_files = refl
+
+-- ---- the flags of `check`
+
+abbrev flag_of : Text → Option (Text × List Row) → Option (Option Text)
+flag_of flag = option_map (λ p. one_of flag p.1)
+
+explain_named : flag_of (codes "explain") (named (codes "mcv" ∷ codes "check" ∷ codes "--explain" ∷ [])) ≡ Some (Some (codes "true"))
+unfolding clap_on_literals
+explain_named = refl
+
+explain_absent : flag_of (codes "explain") (named (codes "mcv" ∷ codes "check" ∷ codes "--quiet" ∷ [])) ≡ Some (Some (codes "false"))
+unfolding clap_on_literals
+explain_absent = refl
+
+quiet_named : flag_of (codes "quiet") (named (codes "mcv" ∷ codes "check" ∷ codes "-q" ∷ [])) ≡ Some (Some (codes "true"))
+unfolding clap_on_literals
+quiet_named = refl
+
+-- a flag takes no value
+flag_with_a_value : faults (codes "mcv" ∷ codes "check" ∷ codes "--explain=x" ∷ []) ≡ TooManyValues ∷ []
+unfolding clap_on_literals
+flag_with_a_value = refl

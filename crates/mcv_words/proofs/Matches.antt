@@ -12,8 +12,8 @@ use Rattle.clap.specs.declared.parser.matches.ArgMatches.{ArgMatches}
 use Rattle.clap.specs.declared.parser.matches.ArgMatches.TheViews.{out-ArgMatches, out-SubCommand}
 use Rattle.clap.specs.declared.parser.matches.SubCommand.{SubCommand}
 use Rattle.clap.specs.Simple.{subcommand_rows}
-use Rattle.mcv_words.specs.Ranges.{proxy_limit, session_limit, timeout_limit, window_limit}
-use Rattle.mcv_words.specs.Words.{faults, named, CanRun, IsCheckOf, IsFaultOfKind, IsGivenIn, IsJobOf, IsLineFault, IsNumberOf, IsRunOf, IsSpoolOf, MayBeGivenIn}
+use Rattle.mcv_words.specs.Ranges.{proxy_limit, session_limit, timeout_limit, window_limit, client_limit}
+use Rattle.mcv_words.specs.Words.{faults, named, CanRun, IsCheckOf, IsFaultOfKind, IsGivenIn, IsJobOf, IsLineFault, IsNumberOf, IsRunOf, IsSpoolOf, MayBeGivenIn, IsMendOf}
 use Rattle.mcv_words.specs.declared.words.Job.{Job}
 use Rattle.mcv_words.specs.declared.words.Job.TheVariants.{Legs, Check, Mend, Run, Spool}
 use Rattle.mcv_words.proofs.OptionValues.{HasAll, HasNumber, MayHaveNumber}
@@ -122,28 +122,37 @@ can_run rows has = record {
   window = given_in (codes "window") 0 window_limit rows has.window;
   server_timeout = may_be_given_in (codes "server-timeout") 1 timeout_limit rows has.server_timeout;
   client_timeout = may_be_given_in (codes "client-timeout") 1 timeout_limit rows has.client_timeout;
+  max_clients = may_be_given_in (codes "max-clients") 1 client_limit rows has.max_clients;
 }
 
 -- the job of `check` that has the values of the words is what they ask for
 pub check_asked : (words : List Text) (rows : List Row) (job : Job) → faults words ≡ [] → named words ≡ Some (codes "check", rows) → IsCheckOf rows job → IsJobOf words job
 check_asked words rows (Legs at) none check of = absurd of
-check_asked words rows (Check cert window) none check of = (none, rows, check, of)
-check_asked words rows Mend none check of = absurd of
+check_asked words rows (Check cert options) none check of = (none, rows, check, of)
+check_asked words rows (Mend patch) none check of = absurd of
 check_asked words rows (Run options) none check of = absurd of
 check_asked words rows (Spool options) none check of = absurd of
+
+-- the job of `mend` that has the values of the words is what they ask for
+pub mend_asked : (words : List Text) (rows : List Row) (job : Job) → faults words ≡ [] → named words ≡ Some (codes "mend", rows) → IsMendOf rows job → IsJobOf words job
+mend_asked words rows (Legs at) none mend of = absurd of
+mend_asked words rows (Check cert options) none mend of = absurd of
+mend_asked words rows (Mend patch) none mend of = (none, rows, mend, of)
+mend_asked words rows (Run options) none mend of = absurd of
+mend_asked words rows (Spool options) none mend of = absurd of
 
 -- the job of `run` that has the values of the words is what they ask for
 pub run_asked : (words : List Text) (rows : List Row) (job : Job) → faults words ≡ [] → named words ≡ Some (codes "run", rows) → IsRunOf rows job → IsJobOf words job
 run_asked words rows (Legs at) none run of = absurd of
-run_asked words rows (Check cert window) none run of = absurd of
-run_asked words rows Mend none run of = absurd of
+run_asked words rows (Check cert options) none run of = absurd of
+run_asked words rows (Mend patch) none run of = absurd of
 run_asked words rows (Run options) none run of = (none, rows, run, of)
 run_asked words rows (Spool options) none run of = absurd of
 
 -- the job of `spool` that has the values of the words is what they ask for
 pub spool_asked : (words : List Text) (rows : List Row) (job : Job) → faults words ≡ [] → named words ≡ Some (codes "spool", rows) → IsSpoolOf rows job → IsJobOf words job
 spool_asked words rows (Legs at) none spool of = absurd of
-spool_asked words rows (Check cert window) none spool of = absurd of
-spool_asked words rows Mend none spool of = absurd of
+spool_asked words rows (Check cert options) none spool of = absurd of
+spool_asked words rows (Mend patch) none spool of = absurd of
 spool_asked words rows (Run options) none spool of = absurd of
 spool_asked words rows (Spool options) none spool of = (none, rows, spool, of)

@@ -23,8 +23,8 @@ use Rattle.clap.specs.declared.builder.value_parser.ValueParser.TheVariants as p
 use Rattle.clap.specs.declared.builder.value_parser.Reading.TheVariants.{AsWritten}
 use Rattle.clap.specs.declared.parser.matches.ValueSource.{ValueSource}
 use Rattle.clap.specs.declared.parser.matches.ValueSource.TheVariants.{CommandLine, DefaultValue}
-use Rattle.mcv_words.specs.Ranges.{proxy_limit, session_limit, timeout_limit, window_limit}
-use Rattle.mcv_words.specs.Words.{at_rule, cert_rule, check_app, client_timeout_rule, faults, file_rule, flag_rule, legs_app, listen_rule, mcv_app, named, proxies_rule, run_app, server_timeout_rule, sessions_rule, spool_app, spool_rule, window_rule}
+use Rattle.mcv_words.specs.Ranges.{proxy_limit, session_limit, timeout_limit, window_limit, client_limit}
+use Rattle.mcv_words.specs.Words.{at_rule, cert_rule, check_app, client_timeout_rule, faults, file_rule, flag_rule, legs_app, listen_rule, mcv_app, named, proxies_rule, quiet_rule, run_app, server_timeout_rule, sessions_rule, spool_app, spool_rule, window_rule, max_clients_rule}
 use Rattle.mcv_words.proofs.CommandIsNamed.{StopsAtCommand, none_below, none_of, some_kind, stop_of, stops_at_command}
 
 -- ---- rows
@@ -428,6 +428,19 @@ check_window_tame (v ∷ vs) rows none good =
     let taken = none_of (range_kinds 1 1 (suc (length vs))) (set_fault false (with_index 1 (filled window_rule)) (v ∷ vs) rows) none in
     written check.rules (codes "window") v vs rows (value_passes (repeat_fault false (codes "window") rows) [] (values_fault (with_index 1 (filled window_rule)) vs) _ taken.1) good
 
+no_value_for_flag : (n : ℕ) → range_kinds 0 0 (suc n) ≡ [] → ⊥
+no_value_for_flag n none =
+    let apart : (0 == suc n) ≡ false = ne_eqb 0 (suc n) (λ same. omega arith) in
+    some_kind WrongNumberOfValues [] (rw apart at none)
+
+explain_tame : IsTame check (with_index 1 (filled (flag_rule (codes "explain"))))
+explain_tame [] rows none good = written check.rules (codes "explain") (codes "true") [] rows refl good
+explain_tame (v ∷ vs) rows none good = absurd (no_value_for_flag (length vs) (none_of (range_kinds 0 0 (suc (length vs))) (set_fault false (with_index 1 (filled (flag_rule (codes "explain")))) (v ∷ vs) rows) none).0)
+
+quiet_tame : IsTame check (with_index 1 (filled quiet_rule))
+quiet_tame [] rows none good = written check.rules (codes "quiet") (codes "true") [] rows refl good
+quiet_tame (v ∷ vs) rows none good = absurd (no_value_for_flag (length vs) (none_of (range_kinds 0 0 (suc (length vs))) (set_fault false (with_index 1 (filled quiet_rule)) (v ∷ vs) rows) none).0)
+
 check_help : IsTame check (with_index 1 (filled help_rule))
 check_help values rows none good = absurd (no_help values rows none)
 
@@ -436,14 +449,19 @@ HasWindow = HasNumber (codes "window") 0 window_limit
 
 check_given : (words : List Text) → level_fault check [] nothing_held words false [] ≡ [] → HasWindow (rows_after check.rules [] words)
 check_given words none =
-    let tame : AreTame check check.rules = (cert_tame, (check_window_tame, (check_help, tt))) in
+    let tame : AreTame check check.rules = (cert_tame, (check_window_tame, (explain_tame, (quiet_tame, (check_help, tt))))) in
     let start : List Row = (settled check.rules (walk check.rules [] nothing_held words).held).rows in
     let given : List Row = with_default start (with_index 1 (filled cert_rule)) in
-    let after : List Row = with_default given (with_index 1 (filled window_rule)) in
+    let windowed : List Row = with_default given (with_index 1 (filled window_rule)) in
+    let explained : List Row = with_default windowed (with_index 1 (filled (flag_rule (codes "explain")))) in
+    let after : List Row = with_default explained (with_index 1 (filled quiet_rule)) in
     let same : given ≡ start = unchanged (has_row (codes "cert") start) start in
     let good = subst (λ (rows : List Row). AreGood check.rules rows) (sym same) (leaf_good check tame words none).0 in
-    let last = defaulted check.rules (codes "window") (codes "0") given refl refl good in
-    let found = found_value check.rules (codes "window") after last.1 last.0 in
+    let first = defaulted check.rules (codes "window") (codes "0") given refl refl good in
+    let second = defaulted check.rules (codes "explain") (codes "false") windowed refl refl first.0 in
+    let last = defaulted check.rules (codes "quiet") (codes "false") explained refl refl second.0 in
+    let has = kept (codes "window") (codes "quiet") (codes "false") explained (kept (codes "window") (codes "explain") (codes "false") windowed first.1) in
+    let found = found_value check.rules (codes "window") after has last.0 in
     subst HasWindow (sym (unchanged (has_row (codes "help") after) after)) (found.0, found.2, found.3)
 
 -- ---- `run`
@@ -491,6 +509,13 @@ client_timeout_tame (v ∷ vs) rows none good =
     written run.rules (codes "client-timeout") v vs rows
     (value_passes (repeat_fault false (codes "client-timeout") rows) [] (values_fault (with_index 1 (filled client_timeout_rule)) vs) _ taken.1) good
 
+max_clients_tame : IsTame run (with_index 1 (filled max_clients_rule))
+max_clients_tame [] rows none good = absurd (some_kind InvalidValue [] none)
+max_clients_tame (v ∷ vs) rows none good =
+    let taken = none_of (range_kinds 1 1 (suc (length vs))) (set_fault false (with_index 1 (filled max_clients_rule)) (v ∷ vs) rows) none in
+    written run.rules (codes "max-clients") v vs rows
+    (value_passes (repeat_fault false (codes "max-clients") rows) [] (values_fault (with_index 1 (filled max_clients_rule)) vs) _ taken.1) good
+
 run_help : IsTame run (with_index 1 (filled help_rule))
 run_help values rows none good = absurd (no_help values rows none)
 
@@ -503,6 +528,7 @@ pub record HasAll (rows : List Row) : Type 0 where
   pub window : HasNumber (codes "window") 0 window_limit rows
   pub server_timeout : MayHaveNumber (codes "server-timeout") 1 timeout_limit rows
   pub client_timeout : MayHaveNumber (codes "client-timeout") 1 timeout_limit rows
+  pub max_clients : MayHaveNumber (codes "max-clients") 1 client_limit rows
 
 both_given : (a b : Bool) → cond (not a || (not b || false)) (MissingRequiredArgument ∷ []) [] ≡ [] → (a ≡ true) × (b ≡ true)
 both_given true true e = (refl, refl)
@@ -511,7 +537,7 @@ both_given false b e = absurd (some_kind MissingRequiredArgument [] e)
 
 run_given : (words : List Text) → level_fault run [] nothing_held words false [] ≡ [] → HasAll (rows_after run.rules [] words)
 run_given words none =
-    let tame : AreTame run run.rules = (listen_tame, (spool_tame, (sessions_tame, (proxies_tame, (window_tame, (server_timeout_tame, (client_timeout_tame, (run_help, tt)))))))) in
+    let tame : AreTame run run.rules = (listen_tame, (spool_tame, (sessions_tame, (proxies_tame, (window_tame, (server_timeout_tame, (client_timeout_tame, (max_clients_tame, (run_help, tt))))))))) in
     let start : List Row = (settled run.rules (walk run.rules [] nothing_held words).held).rows in
     let listened : List Row = with_default start (with_index 1 (filled listen_rule)) in
     let spooled : List Row = with_default listened (with_index 1 (filled spool_rule)) in
@@ -519,13 +545,15 @@ run_given words none =
     let beside : List Row = with_default counted (with_index 1 (filled proxies_rule)) in
     let all : List Row = with_default beside (with_index 1 (filled window_rule)) in
     let served : List Row = with_default all (with_index 1 (filled server_timeout_rule)) in
-    let after : List Row = with_default served (with_index 1 (filled client_timeout_rule)) in
+    let timed : List Row = with_default served (with_index 1 (filled client_timeout_rule)) in
+    let after : List Row = with_default timed (with_index 1 (filled max_clients_rule)) in
     let same : counted ≡ start = unchanged (has_row (codes "sessions") spooled) spooled ∙ (unchanged (has_row (codes "spool") listened) listened ∙ unchanged (has_row (codes "listen") start) start) in
     let leaf = leaf_good run tame words none in
     let first = defaulted run.rules (codes "proxies") (codes "1") counted refl refl (subst (λ (rows : List Row). AreGood run.rules rows) (sym same) leaf.0) in
     let last = defaulted run.rules (codes "window") (codes "0") beside refl refl first.0 in
     let ended : rows_after run.rules [] words ≡ all =
-    unchanged (has_row (codes "help") after) after ∙ (unchanged (has_row (codes "client-timeout") served) served ∙ unchanged (has_row (codes "server-timeout") all) all) in
+    unchanged (has_row (codes "help") after) after
+    ∙ (unchanged (has_row (codes "max-clients") timed) timed ∙ (unchanged (has_row (codes "client-timeout") served) served ∙ unchanged (has_row (codes "server-timeout") all) all)) in
     let both = both_given (is_given (codes "listen") all) (is_given (codes "spool") all) (subst (λ (rows : List Row). check_fault run rows false ≡ []) ended leaf.1) in
     let listen = found_value run.rules (codes "listen") all (given_has (codes "listen") all both.0) last.0 in
     let spool = found_value run.rules (codes "spool") all (given_has (codes "spool") all both.1) last.0 in
@@ -540,6 +568,7 @@ run_given words none =
       window = (window.0, window.2, window.3);
       server_timeout = may_have_value run.rules (codes "server-timeout") all last.0;
       client_timeout = may_have_value run.rules (codes "client-timeout") all last.0;
+      max_clients = may_have_value run.rules (codes "max-clients") all last.0;
     })
 
 -- ---- `spool`
@@ -550,11 +579,6 @@ spool = built_leaf (inherited (built mcv_app).top spool_app.top)
 file_tame : IsTame spool (with_index 1 (filled file_rule))
 file_tame [] rows none good = absurd (some_kind InvalidValue [] none)
 file_tame (v ∷ vs) rows none good = written spool.rules (codes "file") v vs rows refl good
-
-no_value_for_flag : (n : ℕ) → range_kinds 0 0 (suc n) ≡ [] → ⊥
-no_value_for_flag n none =
-    let apart : (0 == suc n) ≡ false = ne_eqb 0 (suc n) (λ same. omega arith) in
-    some_kind WrongNumberOfValues [] (rw apart at none)
 
 all_tame : IsTame spool (with_index 2 (filled (flag_rule (codes "all"))))
 all_tame [] rows none good = written spool.rules (codes "all") (codes "true") [] rows refl good

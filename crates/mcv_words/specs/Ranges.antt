@@ -13,6 +13,10 @@ proxy_limit = 64
 abbrev pub timeout_limit : ℕ
 timeout_limit = 3600000
 
+-- the most clients that are served at once, of which there is one at least
+abbrev pub client_limit : ℕ
+client_limit = 1000000
+
 -- the most seconds of a window; the least are 0
 abbrev pub window_limit : ℕ
 window_limit = 4294967295

@@ -8,14 +8,15 @@ use Rattle.clap.specs.declared.builder.action.ArgAction.TheVariants.{SetTrue}
 use Rattle.clap.specs.declared.builder.value_parser.ValueParser.TheVariants as parsers
 use Rattle.clap.specs.declared.error.kind.ErrorKind.{ErrorKind}
 use Rattle.clap.specs.declared.error.kind.ErrorKind.TheVariants.{DisplayHelp, DisplayVersion, OutOfMemory}
-use Rattle.mcv_words.specs.Ranges.{proxy_limit, session_limit, timeout_limit, window_limit}
+use Rattle.mcv_words.specs.Ranges.{proxy_limit, session_limit, timeout_limit, window_limit, client_limit}
+use Rattle.mcv_words.specs.declared.options.CheckOptions.{CheckOptions}
 use Rattle.mcv_words.specs.declared.options.ClientTimeout.{ClientTimeout}
+use Rattle.mcv_words.specs.declared.options.MaxClients.{MaxClients}
 use Rattle.mcv_words.specs.declared.options.RunOptions.{RunOptions}
 use Rattle.mcv_words.specs.declared.options.ServerTimeout.{ServerTimeout}
 use Rattle.mcv_words.specs.declared.options.Sessions.{Sessions}
 use Rattle.mcv_words.specs.declared.options.Settings.{Settings}
 use Rattle.mcv_words.specs.declared.options.SpoolOptions.{SpoolOptions}
-use Rattle.mcv_words.specs.declared.options.Window.{Window}
 use Rattle.mcv_words.specs.declared.words.Job.{Job}
 use Rattle.mcv_words.specs.declared.words.Job.TheVariants.{Legs, Check, Mend, Run, Spool}
 use Rattle.mcv_words.specs.declared.words.LineFault.{LineFault}
@@ -53,13 +54,24 @@ number_rule name least most = record (option_rule name) { parser = Some (parsers
 abbrev pub window_rule : Rule
 window_rule = record (number_rule (codes "window") 0 window_limit) { defaults = codes "0" ∷ [] }
 
--- `check [--cert FILE] [--window SECONDS]`
-abbrev pub check_app : App
-check_app = with_rule (with_rule (new_app (codes "check")) cert_rule) window_rule
+-- a flag, which takes no value
+abbrev pub flag_rule : Text → Rule
+flag_rule name = record (new_rule name) {
+  long = Some name;
+  action = Some SetTrue;
+}
 
--- `mend`
+-- `-q`, `--quiet`
+abbrev pub quiet_rule : Rule
+quiet_rule = record (flag_rule (codes "quiet")) { short = Some 113 }
+
+-- `check [--cert FILE] [--window SECONDS] [--explain] [-q]`
+abbrev pub check_app : App
+check_app = with_rule (with_rule (with_rule (with_rule (new_app (codes "check")) cert_rule) window_rule) (flag_rule (codes "explain"))) quiet_rule
+
+-- `mend [--patch]`
 abbrev pub mend_app : App
-mend_app = new_app (codes "mend")
+mend_app = with_rule (new_app (codes "mend")) (flag_rule (codes "patch"))
 
 -- `--listen ADDRESS`, `--spool FILE`: wanted
 abbrev pub listen_rule : Rule
@@ -83,20 +95,17 @@ server_timeout_rule = number_rule (codes "server-timeout") 1 timeout_limit
 abbrev pub client_timeout_rule : Rule
 client_timeout_rule = number_rule (codes "client-timeout") 1 timeout_limit
 
+-- `--max-clients N`: a number from 1 to 1000000
+abbrev pub max_clients_rule : Rule
+max_clients_rule = number_rule (codes "max-clients") 1 client_limit
+
 -- the options of `run`, in the order of its help
 abbrev pub run_rules : List Rule
-run_rules = listen_rule ∷ spool_rule ∷ sessions_rule ∷ proxies_rule ∷ window_rule ∷ server_timeout_rule ∷ client_timeout_rule ∷ []
+run_rules = listen_rule ∷ spool_rule ∷ sessions_rule ∷ proxies_rule ∷ window_rule ∷ server_timeout_rule ∷ client_timeout_rule ∷ max_clients_rule ∷ []
 
 -- `run --listen ADDRESS --spool FILE` with the options whose rules stand above
 abbrev pub run_app : App
 run_app = fold with_rule (new_app (codes "run")) run_rules
-
--- a flag, which takes no value
-abbrev pub flag_rule : Text → Rule
-flag_rule name = record (new_rule name) {
-  long = Some name;
-  action = Some SetTrue;
-}
 
 -- `FILE`: wanted, and told by its place
 abbrev pub file_rule : Rule
@@ -139,17 +148,23 @@ abbrev pub IsNumberOf : (option : Text) → List Row → ℕ → Type 0
 IsNumberOf option rows n = (text : Text) × (one_of option rows ≡ Some text) × IsNumeral 10 (without_leading_plus text)
     × (n ≡ digits_value 10 (without_leading_plus text))
 
--- the value of `--cert`, or none, and that of `--window`
-abbrev pub HasCheckValues : List Row → (cert : Option Text) → Window → Type 0
-HasCheckValues rows cert window = (cert ≡ first_of (codes "cert") rows) × IsNumberOf (codes "window") rows window.seconds
+-- whether a flag is given: clap reads it as `true`, and as `false` where it isn't
+abbrev pub IsFlag : (flag : Text) → List Row → Bool → Type 0
+IsFlag flag rows b =
+    (one_of flag rows ≡ Some (codes "true") → b ≡ true) × (one_of flag rows ≡ Some (codes "false") → b ≡ false) × (one_of flag rows ≡ None → b ≡ false)
+
+-- the value of `--cert`, or none, that of `--window`, and whether `--explain` and `-q` are given
+abbrev pub HasCheckValues : List Row → (cert : Option Text) → CheckOptions → Type 0
+HasCheckValues rows cert options = (cert ≡ first_of (codes "cert") rows) × IsNumberOf (codes "window") rows options.window.seconds
+    × IsFlag (codes "explain") rows options.explain × IsFlag (codes "quiet") rows options.quiet
 
 -- clap takes the words, and they name the command `check` with these values
-abbrev pub AsksCheck : List Text → (cert : Option Text) → Window → Type 0
-AsksCheck words cert window = (faults words ≡ []) × (rows : List Row) × (named words ≡ Some (codes "check", rows)) × HasCheckValues rows cert window
+abbrev pub AsksCheck : List Text → (cert : Option Text) → CheckOptions → Type 0
+AsksCheck words cert options = (faults words ≡ []) × (rows : List Row) × (named words ≡ Some (codes "check", rows)) × HasCheckValues rows cert options
 
--- clap takes the words, and they name the command `mend`
-abbrev pub AsksMend : List Text → Type 0
-AsksMend words = (faults words ≡ []) × (rows : List Row) × (named words ≡ Some (codes "mend", rows))
+-- clap takes the words, and they name the command `mend`, with `--patch` or without
+abbrev pub AsksMend : List Text → (patch : Bool) → Type 0
+AsksMend words patch = (faults words ≡ []) × (rows : List Row) × (named words ≡ Some (codes "mend", rows)) × IsFlag (codes "patch") rows patch
 
 -- the value of an option that may be left out: none, or a number
 abbrev pub IsNumberIfGiven : (option : Text) → List Row → Option ℕ → Type 0
@@ -163,6 +178,7 @@ pub record HasSettings (rows : List Row) (s : Settings) : Type 0 where
   pub window : IsNumberOf (codes "window") rows s.window.seconds
   pub server_timeout : IsNumberIfGiven (codes "server-timeout") rows (option_map (λ (t : ServerTimeout). t.millis) s.server_timeout)
   pub client_timeout : IsNumberIfGiven (codes "client-timeout") rows (option_map (λ (t : ClientTimeout). t.millis) s.client_timeout)
+  pub max_clients : IsNumberIfGiven (codes "max-clients") rows (option_map (λ (n : MaxClients). n.count) s.max_clients)
 
 -- what `run` is asked for: the address, the name of the spool's file, and the numbers, each of which is in its range by its type
 pub record RunOrder : Type 0 where
@@ -183,11 +199,6 @@ pub record HasRunValues (rows : List Row) (order : RunOrder) : Type 0 where
 abbrev pub AsksRun : List Text → RunOrder → Type 0
 AsksRun words order = (faults words ≡ []) × (rows : List Row) × (named words ≡ Some (codes "run", rows)) × HasRunValues rows order
 
--- whether a flag is given: clap reads it as `true`, and as `false` where it isn't
-abbrev pub IsFlag : (flag : Text) → List Row → Bool → Type 0
-IsFlag flag rows b =
-    (one_of flag rows ≡ Some (codes "true") → b ≡ true) × (one_of flag rows ≡ Some (codes "false") → b ≡ false) × (one_of flag rows ≡ None → b ≡ false)
-
 -- what `spool` is asked for: the name of the spool's file, and whether records that are done are shown, too
 pub record SpoolOrder : Type 0 where
   pub file : Text
@@ -207,24 +218,32 @@ AsksSpool words order = (faults words ≡ []) × (rows : List Row) × (named wor
 -- the job of `check` with these values
 abbrev pub IsCheckOf : List Row → Job → Type 0
 IsCheckOf rows (Legs at) = ⊥
-IsCheckOf rows (Check cert window) = HasCheckValues rows (option_map (λ name. name.now) cert) window
-IsCheckOf rows Mend = ⊥
+IsCheckOf rows (Check cert options) = HasCheckValues rows (option_map (λ name. name.now) cert) options
+IsCheckOf rows (Mend patch) = ⊥
 IsCheckOf rows (Run options) = ⊥
 IsCheckOf rows (Spool options) = ⊥
+
+-- the job of `mend` with these values
+abbrev pub IsMendOf : List Row → Job → Type 0
+IsMendOf rows (Legs at) = ⊥
+IsMendOf rows (Check cert options) = ⊥
+IsMendOf rows (Mend patch) = IsFlag (codes "patch") rows patch
+IsMendOf rows (Run options) = ⊥
+IsMendOf rows (Spool options) = ⊥
 
 -- the job of `run` with these values
 abbrev pub IsRunOf : List Row → Job → Type 0
 IsRunOf rows (Legs at) = ⊥
-IsRunOf rows (Check cert window) = ⊥
-IsRunOf rows Mend = ⊥
+IsRunOf rows (Check cert options) = ⊥
+IsRunOf rows (Mend patch) = ⊥
 IsRunOf rows (Run options) = HasRunValues rows (order_of options)
 IsRunOf rows (Spool options) = ⊥
 
 -- the job of `spool` with these values
 abbrev pub IsSpoolOf : List Row → Job → Type 0
 IsSpoolOf rows (Legs at) = ⊥
-IsSpoolOf rows (Check cert window) = ⊥
-IsSpoolOf rows Mend = ⊥
+IsSpoolOf rows (Check cert options) = ⊥
+IsSpoolOf rows (Mend patch) = ⊥
 IsSpoolOf rows (Run options) = ⊥
 IsSpoolOf rows (Spool options) = HasSpoolValues rows (spool_order_of options)
 
@@ -245,12 +264,13 @@ pub record CanRun (rows : List Row) : Type 0 where
   pub window : IsGivenIn (codes "window") 0 window_limit rows
   pub server_timeout : MayBeGivenIn (codes "server-timeout") 1 timeout_limit rows
   pub client_timeout : MayBeGivenIn (codes "client-timeout") 1 timeout_limit rows
+  pub max_clients : MayBeGivenIn (codes "max-clients") 1 client_limit rows
 
 -- clap takes the words, and they name the job's command with the values that the job has
 abbrev pub IsJobOf : List Text → Job → Type 0
-IsJobOf words (Check cert window) = AsksCheck words (option_map (λ name. name.now) cert) window
+IsJobOf words (Check cert options) = AsksCheck words (option_map (λ name. name.now) cert) options
 IsJobOf words (Legs at) = (faults words ≡ []) × (rows : List Row) × (named words ≡ Some (codes "legs", rows)) × IsNumberOf (codes "at") rows at.0
-IsJobOf words Mend = AsksMend words
+IsJobOf words (Mend patch) = AsksMend words patch
 IsJobOf words (Run options) = AsksRun words (order_of options)
 IsJobOf words (Spool options) = AsksSpool words (spool_order_of options)
 

@@ -77,6 +77,10 @@ pub(crate) const CHECK_ABOUT: &str = "Decides whether a configuration can lose a
 
 pub(crate) const CERT: &str = "A certificate in place of one that mcv makes";
 
+pub(crate) const EXPLAIN: &str = "The finding in sentences behind its text";
+
+pub(crate) const QUIET: &str = "One line on standard error for a fault, not two";
+
 pub(crate) const WINDOW: &str = "How many seconds may lie between a delete and a
 get, from 0 to 4294967295";
 
@@ -170,6 +174,8 @@ A configuration that isn't read is reported as
 
 pub(crate) const MEND_ABOUT: &str = "Adds the deletes that a configuration lacks";
 
+pub(crate) const PATCH: &str = "Writes the change alone, as a JSON patch (RFC 6902)";
+
 pub(crate) const MEND_FORM: &str =
     "Standard input has the configuration as JSON; `mcv legs --help` says which route
 handles are read. Where it can lose a delete, standard output has it with legs
@@ -181,8 +187,11 @@ What is written is what was read, with insertions: comments, order and spaces
 stay. Legs are added and none is taken away; only deletes are sent otherwise
 than before. The legs that keys of one class get are the least: with any of them
 left out, a server could be read that misses a delete. A configuration that is
-covered is written byte for byte. As with `mcv check` without `--window`, a read
-and a delete are judged at one stage of each migration.
+covered is written byte for byte. With `--patch` standard output has a JSON
+patch in a line, of one operation, or of none where the configuration is
+covered; it makes the same of the configuration without its comments. As with
+`mcv check` without `--window`, a read and a delete are judged at one stage of
+each migration.
 
 Exit status:
   0  written, or help was asked for
@@ -214,6 +223,9 @@ from 1 to 3600000; without it, any time";
 
 pub(crate) const CLIENT_TIMEOUT: &str = "How many milliseconds a client may send or
 take nothing, from 1 to 3600000; without it, any";
+
+pub(crate) const MAX_CLIENTS: &str = "How many clients are served at once,
+from 1 to 1000000; without it, any number";
 
 pub(crate) const RUN_FORM: &str =
     "Standard input has the configuration as JSON; `mcv legs --help` says which route

@@ -7,7 +7,7 @@ mod options;
 mod words;
 
 pub use options::{
-    ClientTimeout, InRange, Proxies, RunOptions, ServerTimeout, Sessions, Settings, SpoolOptions,
-    Window,
+    CheckOptions, ClientTimeout, InRange, MaxClients, Proxies, RunOptions, ServerTimeout, Sessions,
+    Settings, SpoolOptions, Window,
 };
 pub use words::{Job, LineFault, read_words};

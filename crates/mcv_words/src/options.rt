@@ -1,7 +1,7 @@
 //! What `check` and `run` are asked for. Each number has a type of its own, which keeps it in its range.
 
 ghost use Rattle.std.specs.Prelude.{◌≡◌, ◌↔◌, ◌≤◌, ℕ, IfSome, IsSome};
-ghost use Rattle.mcv_words.specs.Ranges.{proxy_limit, session_limit, timeout_limit, window_limit};
+ghost use Rattle.mcv_words.specs.Ranges.{client_limit, proxy_limit, session_limit, timeout_limit, window_limit};
 
 /// A number that an option takes.
 pub trait InRange: Drop + Sized {
@@ -127,6 +127,38 @@ impl InRange for ClientTimeout {
     }
 }
 
+/// How many clients are served at once, from 1 to 1,000,000.
+#[derive(Clone, Copy, Debug, PartialEq, Eq)]
+pub struct MaxClients {
+    pub count: u64,
+    pub ghost in_range: { (1 ≤ count) × (count ≤ client_limit) },
+}
+
+impl InRange for MaxClients {
+    ghost least = { 1 };
+
+    ghost most = { client_limit };
+
+    ghost value = { λ clients. clients.count };
+
+    fn new(number: u64) -> Option<MaxClients> {
+        if number < 1 || number > 1_000_000 {
+            return None;
+        }
+        Some(MaxClients { count: number })
+    }
+}
+
+/// Within which window a configuration is judged, and what is said of it.
+#[derive(Clone, Copy, Debug, PartialEq, Eq)]
+pub struct CheckOptions {
+    pub window: Window,
+    /// With an explanation behind the verdict.
+    pub explain: bool,
+    /// With one line for a fault, in place of two.
+    pub quiet: bool,
+}
+
 /// The numbers of `run`'s options.
 #[derive(Clone, Copy, Debug, PartialEq, Eq)]
 pub struct Settings {
@@ -139,6 +171,8 @@ pub struct Settings {
     pub server_timeout: Option<ServerTimeout>,
     /// None where a client may take any time.
     pub client_timeout: Option<ClientTimeout>,
+    /// None where any number of clients is served at once.
+    pub max_clients: Option<MaxClients>,
 }
 
 /// What `run` is asked for.

@@ -5,17 +5,17 @@ ghost use Rattle.std.specs.Prelude.{◌≡◌, codes, false, option_map, IfOk, I
 ghost use Rattle.clap.specs.Words.{Text, app_of, first_of, found_of, kind_of, rows_of, rule_of};
 ghost use Rattle.clap.specs.declared.builder.command.Command.TheViews.{out-Command as fields_of};
 ghost use Rattle.mcv_words.specs.Ranges.{window_limit};
-ghost use Rattle.mcv_words.specs.Words.{at_rule, cert_rule, check_app, client_timeout_rule, file_rule, flag_rule, legs_app, listen_rule, mcv_app, mend_app, proxies_rule, run_app, server_timeout_rule, sessions_rule, spool_app, spool_rule, window_rule, line_fault_number, CanRun, IsCheckOf, IsFaultOfKind, IsGivenIn, IsJobOf, IsLineFault, IsNumberIfGiven, IsRunOf, IsSpoolOf, MayBeGivenIn};
+ghost use Rattle.mcv_words.specs.Words.{at_rule, cert_rule, check_app, client_timeout_rule, file_rule, flag_rule, legs_app, line_fault_number, listen_rule, max_clients_rule, mcv_app, mend_app, proxies_rule, quiet_rule, run_app, server_timeout_rule, sessions_rule, spool_app, spool_rule, window_rule, CanRun, IsCheckOf, IsFaultOfKind, IsGivenIn, IsJobOf, IsLineFault, IsMendOf, IsNumberIfGiven, IsRunOf, IsSpoolOf, MayBeGivenIn};
 ghost use Rattle.mcv_words.specs.declared.words.LineFault.TheVariants.{Memory as out_of_memory};
 
 use crate::help::{
-    ABOUT, ALL, AT, CERT, CHECK_ABOUT, CHECK_FORM, CLIENT_TIMEOUT, EXAMPLE, FILE, LEGS_ABOUT,
-    LEGS_FORM, LISTEN, MEND_ABOUT, MEND_FORM, PROXIES, RUN_ABOUT, RUN_FORM, SERVER_TIMEOUT,
-    SESSIONS, SPOOL, SPOOL_ABOUT, SPOOL_FORM, WINDOW,
+    ABOUT, ALL, AT, CERT, CHECK_ABOUT, CHECK_FORM, CLIENT_TIMEOUT, EXAMPLE, EXPLAIN, FILE,
+    LEGS_ABOUT, LEGS_FORM, LISTEN, MAX_CLIENTS, MEND_ABOUT, MEND_FORM, PATCH, PROXIES, QUIET,
+    RUN_ABOUT, RUN_FORM, SERVER_TIMEOUT, SESSIONS, SPOOL, SPOOL_ABOUT, SPOOL_FORM, WINDOW,
 };
 use crate::options::{
-    ClientTimeout, InRange, Proxies, RunOptions, ServerTimeout, Sessions, Settings, SpoolOptions,
-    Window,
+    CheckOptions, ClientTimeout, InRange, MaxClients, Proxies, RunOptions, ServerTimeout, Sessions,
+    Settings, SpoolOptions, Window,
 };
 use clap::builder::ValueParser;
 use clap::error::ErrorKind;
@@ -31,13 +31,15 @@ pub enum Job<'a> {
     Legs {
         at: Moment,
     },
-    /// To judge a configuration within this window, by the certificate in the file of this name where one is given.
+    /// To judge a configuration, by the certificate in the file of this name where one is given, as the options say.
     Check {
         cert: Option<&'a str>,
-        window: Window,
+        options: CheckOptions,
     },
-    /// To mend a configuration.
-    Mend,
+    /// To mend a configuration, or to write the patch that mends it.
+    Mend {
+        patch: bool,
+    },
     /// To serve clients.
     Run(RunOptions<'a>),
     /// To show the records of a spool's file.
@@ -126,26 +128,47 @@ fn window_option<'a>(alloc: Global) -> Arg<'a>
         .help(WINDOW)
 }
 
+/// A flag by its name.
+fn flag<'a>(alloc: Global, name: &'static str, help: &'static str) -> Arg<'a>
+    ensures rule { rule_of result ≡ flag_rule name.now }
+    ensures local { result.global ≡ false }
+{
+    Arg::new(alloc, name)
+        .long(name)
+        .action(ArgAction::SetTrue)
+        .help(help)
+}
+
+fn quiet_flag<'a>(alloc: Global) -> Arg<'a>
+    ensures rule { rule_of result ≡ quiet_rule }
+    ensures local { result.global ≡ false }
+{
+    flag(alloc, "quiet", QUIET).short('q')
+}
+
 fn check_command<'a>(alloc: Global) -> Result<Command<'a>, AllocError>
     ensures app { IfOk result (λ c. app_of c ≡ check_app) }
     ensures local { IfOk result (λ c. (fields_of c).has_globals ≡ false) }
 {
     Command::new(alloc, "check")
         .about(CHECK_ABOUT)
-        .override_usage("mcv check [--cert FILE] [--window SECONDS] < FILE")
+        .override_usage("mcv check [--cert FILE] [--window SECONDS] [--explain] [-q] < FILE")
         .after_help(CHECK_FORM)
         .arg(cert_option(alloc))?
-        .arg(window_option(alloc))
+        .arg(window_option(alloc))?
+        .arg(flag(alloc, "explain", EXPLAIN))?
+        .arg(quiet_flag(alloc))
 }
 
-fn mend_command<'a>(alloc: Global) -> Command<'a>
-    ensures app { app_of result ≡ mend_app }
-    ensures local { (fields_of result).has_globals ≡ false }
+fn mend_command<'a>(alloc: Global) -> Result<Command<'a>, AllocError>
+    ensures app { IfOk result (λ c. app_of c ≡ mend_app) }
+    ensures local { IfOk result (λ c. (fields_of c).has_globals ≡ false) }
 {
     Command::new(alloc, "mend")
         .about(MEND_ABOUT)
-        .override_usage("mcv mend < FILE")
+        .override_usage("mcv mend [--patch] < FILE")
         .after_help(MEND_FORM)
+        .arg(flag(alloc, "patch", PATCH))
 }
 
 fn listen_option<'a>(alloc: Global) -> Arg<'a>
@@ -215,6 +238,17 @@ fn client_timeout_option<'a>(alloc: Global) -> Arg<'a>
         .help(CLIENT_TIMEOUT)
 }
 
+fn max_clients_option<'a>(alloc: Global) -> Arg<'a>
+    ensures rule { rule_of result ≡ max_clients_rule }
+    ensures local { result.global ≡ false }
+{
+    Arg::new(alloc, "max-clients")
+        .long("max-clients")
+        .value_name("N")
+        .value_parser(ValueParser::unsigned(1, 1_000_000))
+        .help(MAX_CLIENTS)
+}
+
 fn run_command<'a>(alloc: Global) -> Result<Command<'a>, AllocError>
     ensures app { IfOk result (λ c. app_of c ≡ run_app) }
     ensures local { IfOk result (λ c. (fields_of c).has_globals ≡ false) }
@@ -229,18 +263,8 @@ fn run_command<'a>(alloc: Global) -> Result<Command<'a>, AllocError>
         .arg(proxies_option(alloc))?
         .arg(window_option(alloc))?
         .arg(server_timeout_option(alloc))?
-        .arg(client_timeout_option(alloc))
-}
-
-/// A flag by its name.
-fn flag<'a>(alloc: Global, name: &'static str, help: &'static str) -> Arg<'a>
-    ensures rule { rule_of result ≡ flag_rule name.now }
-    ensures local { result.global ≡ false }
-{
-    Arg::new(alloc, name)
-        .long(name)
-        .action(ArgAction::SetTrue)
-        .help(help)
+        .arg(client_timeout_option(alloc))?
+        .arg(max_clients_option(alloc))
 }
 
 fn file_argument<'a>(alloc: Global) -> Arg<'a>
@@ -270,6 +294,7 @@ fn command<'a>(alloc: Global) -> Result<Command<'a>, AllocError>
 {
     let check = check_command(alloc)?;
     let legs = legs_command(alloc)?;
+    let mend = mend_command(alloc)?;
     let run = run_command(alloc)?;
     let spool = spool_command(alloc)?;
     Command::new(alloc, "mcv")
@@ -280,7 +305,7 @@ fn command<'a>(alloc: Global) -> Result<Command<'a>, AllocError>
         .bin_name("mcv")?
         .subcommand(check)?
         .subcommand(legs)?
-        .subcommand(mend_command(alloc))?
+        .subcommand(mend)?
         .subcommand(run)?
         .subcommand(spool)
 }
@@ -325,7 +350,24 @@ fn check_job<'a>(found: &ArgMatches<'a>) -> Result<Job<'a>, LineFault>
     let Some(window) = number_of::<Window>(found, "window")? else {
         return Err(LineFault::BadLine);
     };
-    Ok(Job::Check { cert, window })
+    let explain = found.get_flag("explain");
+    let quiet = found.get_flag("quiet");
+    Ok(Job::Check {
+        cert,
+        options: CheckOptions {
+            window,
+            explain,
+            quiet,
+        },
+    })
+}
+
+/// The job of `mend`, by what clap found for its options.
+fn mend_job<'a>(found: &ArgMatches<'a>) -> Job<'a>
+    ensures { IsMendOf (rows_of (found_of found.now)) result }
+{
+    let patch = found.get_flag("patch");
+    Job::Mend { patch }
 }
 
 /// The job of `run`, by what clap found for its options.
@@ -348,6 +390,7 @@ fn run_job<'a>(found: &ArgMatches<'a>) -> Result<Job<'a>, LineFault>
     };
     let server_timeout = number_of::<ServerTimeout>(found, "server-timeout")?;
     let client_timeout = number_of::<ClientTimeout>(found, "client-timeout")?;
+    let max_clients = number_of::<MaxClients>(found, "max-clients")?;
     Ok(Job::Run(RunOptions {
         listen,
         spool,
@@ -357,6 +400,7 @@ fn run_job<'a>(found: &ArgMatches<'a>) -> Result<Job<'a>, LineFault>
             window,
             server_timeout,
             client_timeout,
+            max_clients,
         },
     }))
 }
@@ -389,8 +433,8 @@ pub fn read_words<'a>(alloc: Global, words: &'a [&'a str]) -> Result<Job<'a>, Li
         };
         return Ok(job);
     }
-    if let Some(_found) = matches.subcommand_matches("mend") {
-        return Ok(Job::Mend);
+    if let Some(mending) = matches.subcommand_matches("mend") {
+        return Ok(mend_job(mending));
     }
     if let Some(found) = matches.subcommand_matches("run") {
         let Ok(job) = run_job(found) else {

@@ -7,8 +7,8 @@ import threading
 import time
 
 from fakes import Fake
-from parts import (LIMIT, Failed, address_of, case, deletes_to_all, expect, one_pool, records, replayed, stored, value_answer,
-                   wait_for)
+from parts import (LIMIT, UNLIMITED, Failed, address_of, case, deletes_to_all, expect, one_pool, records, replayed,
+                   stored, value_answer, wait_for)
 
 
 @case(120)
@@ -129,6 +129,50 @@ def a_client_past_its_time_is_closed(machine):
         if len(deaf.rest()) >= 30 * 1000000:
             raise Failed("a client that reads nothing has all its answers")
         works.ask(b"get a\r\n", b"END\r\n")
+
+
+TOO_MANY = b"SERVER_ERROR too many clients\r\n"
+
+
+def told(*counts):
+    return UNLIMITED + b"".join(b"mcv: too many clients: %d refused\n" % count for count in counts)
+
+
+def is_served(mcv):
+    """Whether there is a seat for a further client. It is told where there is none, and may be told before it has asked."""
+    with mcv.client() as other:
+        other.send(b"get a\r\nquit\r\n")
+        line = other.line()
+        expect(line in (b"END\r\n", TOO_MANY), True, "an answer, %s" % line)
+        return line == b"END\r\n"
+
+
+@case()
+def clients_past_the_limit_are_refused(machine):
+    mcv = machine.mcv(one_pool(machine.servers(1)), max_clients=2)
+    with mcv.client() as one, mcv.client() as two:
+        for client in (one, two):
+            client.ask(b"get a\r\n", b"END\r\n")
+        for n in range(1001):
+            with mcv.client() as third:
+                expect(third.rest(), TOO_MANY, "client %d past the limit" % n)
+            expect(mcv.error_text(), told(1) if n < 999 else told(1, 1000), "standard error")
+        two.ask(b"get a\r\nquit\r\n", b"END\r\n")
+        expect(two.rest(), b"")
+        wait_for(lambda: is_served(mcv), "a seat is free again")
+        one.ask(b"get a\r\n", b"END\r\n")
+
+
+@case()
+def a_client_that_is_refused_is_no_session(machine):
+    mcv = machine.mcv(one_pool(machine.servers(1)), max_clients=1, sessions=2)
+    with mcv.client() as one:
+        one.ask(b"get a\r\n", b"END\r\n")
+        for _ in range(3):
+            with mcv.client() as other:
+                expect(other.rest(), TOO_MANY)
+    wait_for(lambda: is_served(mcv), "the second session")
+    expect(mcv.last_lines(), (b"mcv closed calls 2\n", 0))
 
 
 @case()

@@ -216,6 +216,24 @@ def hung_beside(hung, up):
 
 
 @case()
+def servers_that_one_request_marks_are_each_said(machine):
+    """A get goes on from one server that is away to another, and fails at both: the third marks both."""
+    away = ["127.0.0.1:%d" % free_port() for _ in range(2)]
+    pools = {"A": {"servers": away[:1]}, "B": {"servers": away[1:]}}
+    route = {"type": "FailoverRoute", "children": ["PoolRoute|A", "PoolRoute|B"]}
+    mcv = machine.mcv({"pools": pools, "route": {
+        "type": "OperationSelectorRoute",
+        "operation_policies": {"delete": {"type": "AllSyncRoute", "children": ["PoolRoute|A", "PoolRoute|B"]}},
+        "default_policy": route,
+    }}, server_timeout=5000)
+    with mcv.client() as client:
+        for _ in range(3):
+            client.ask(b"get a\r\n", FAILED)
+    lines = [b"mcv: server " + text.encode() + b" is marked" for text in away]
+    wait_for(lambda: all(line in mcv.error_text().splitlines() for line in lines), "each is said")
+
+
+@case()
 def a_server_that_hangs_fails_in_its_time(machine):
     (text, process), up = machine.memcached(), machine.servers(1)[0]
     spool = machine.path("mcv.spool")

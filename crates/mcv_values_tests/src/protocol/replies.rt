@@ -84,7 +84,7 @@ fn push_wire(rt: &impl Abort, bytes: &mut Vec<u8>, byte: u8) {
     }
 }
 
-fn wire(rt: &(impl AllocGlobal + Abort), text: &str) -> Vec<u8> {
+pub fn wire(rt: &(impl AllocGlobal + Abort), text: &str) -> Vec<u8> {
     let mut bytes = Vec::new(rt.alloc());
     for byte in text.as_bytes() {
         push_wire(rt, &mut bytes, *byte);
@@ -99,7 +99,7 @@ fn reader_for(alloc: Global, op: &str) -> Option<ReplyReader> {
     Some(ReplyReader::new(alloc, op, rest))
 }
 
-fn reply_name(reply: &Reply) -> &'static str {
+pub fn reply_name(reply: &Reply) -> &'static str {
     match reply {
         Reply::Hit { .. } => "hit",
         Reply::Miss => "miss",
@@ -114,7 +114,7 @@ fn reply_name(reply: &Reply) -> &'static str {
     }
 }
 
-fn fault_name(fault: ReplyFault) -> &'static str {
+pub fn fault_name(fault: ReplyFault) -> &'static str {
     match fault {
         ReplyFault::NotAReply => "refused",
         ReplyFault::Closed => "closed",

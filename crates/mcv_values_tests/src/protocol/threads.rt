@@ -3,7 +3,7 @@
 use crate::legs::leg_of;
 use crate::rows::check;
 use mcv_base::{LegRequest, Op, Outcome, Parts, Reply, Request, Rest, ServerText};
-use mcv_reply::{ProbeReader, ReplyReader};
+use mcv_reply::{ProbeReader, Replies, ReplyReader};
 use mcv_text::{Item, RequestReader};
 use std::process::Abort;
 use std::sync::Arc;
@@ -40,6 +40,9 @@ fn readers_of_replies_are_moved(rt: HostRuntime) {
     check(&rt, is_deleted(&mut reader), "deleted");
     let mut probe = moved(&rt, ProbeReader::new(rt.alloc()));
     check(&rt, probe.feed(b"VERSION 1\r\n").is_ok(), "the version");
+    let mut replies = moved(&rt, Replies::new(rt.alloc()));
+    let mut given = Vec::new(rt.alloc());
+    check(&rt, replies.feed(b"", &mut given).is_ok(), "nothing");
 }
 
 #[test]

@@ -3,8 +3,10 @@
 use super::script::Script;
 use crate::protocol::moved;
 use crate::rows::{check, check_bytes, push, unfolded};
-use mcv_session::{Flow, Session, SessionFault};
+use mcv_base::Request;
+use mcv_session::{Desk, DeskFault, Machine, Phase, SessionFault};
 use std::process::Abort;
+use std::sync::Arc;
 
 /// A client's bytes, the desk's answers, what is written, what the desk was asked, and whether the session has ended.
 pub type Row = (&'static str, &'static str, &'static str, &'static str, bool);
@@ -118,22 +120,63 @@ pub const ROWS: [Row; 22] = [
     ("", "", "", "", false),
 ];
 
-/// Reads a piece and adds the text. The result: how the session goes on, None where it had ended before.
+/// The desk answers what the session gives out.
+fn answer_one(
+    rt: &impl Abort,
+    session: &mut Machine,
+    desk: &mut Script<'_>,
+    request: &Arc<Request>,
+) {
+    let answered = match desk.ask(request) {
+        Ok(parts) => session.answer(parts.as_slice()),
+        Err(fault) => session.refuse(fault),
+    };
+    check(rt, answered.is_ok(), "an answer");
+}
+
+/// The desk answers each request that waits; of a row there are at most four.
+fn answer_all(rt: &impl Abort, session: &mut Machine, desk: &mut Script<'_>) {
+    for _request in 0..5 {
+        let given = session.next_request().expect(rt, "memory");
+        match given {
+            Some(request) => answer_one(rt, session, desk, &request),
+            None => return,
+        }
+    }
+    check(rt, false, "no request more");
+}
+
+/// Writes so many bytes of the output, or all.
+fn write_part(rt: &impl Abort, session: &mut Machine, count: usize, text: &mut Vec<u8>) {
+    let count = count.min(session.output().len());
+    push(rt, text, &session.output()[..count]);
+    session.wrote(count);
+}
+
+/// Writes so many bytes of the output, and then the others.
+fn write_output(rt: &impl Abort, session: &mut Machine, count: usize, text: &mut Vec<u8>) {
+    write_part(rt, session, count, text);
+    push(rt, text, session.output());
+    session.wrote_all();
+}
+
+/// Reads a piece, and writes its answers. The result: whether the session took it.
 fn read_piece(
     rt: &impl Abort,
     text: &mut Vec<u8>,
-    session: &mut Session,
+    session: &mut Machine,
     desk: &mut Script<'_>,
     piece: &[u8],
-) -> Option<Flow> {
-    match session.read(desk, piece) {
-        Ok(flow) => {
-            push(rt, text, session.text());
-            Some(flow)
+) -> bool {
+    match session.feed(piece) {
+        Ok(()) => {
+            answer_all(rt, session, desk);
+            write_output(rt, session, piece.len(), text);
+            true
         }
         Err(fault) => {
             check(rt, fault == SessionFault::Ended, "a fault");
-            None
+            false
         }
     }
 }
@@ -143,16 +186,14 @@ fn check_row(rt: &(impl AllocGlobal + Abort), row: &Row, size: usize) {
     let (stream, answers, wanted, asked, ends) = *row;
     let bytes = unfolded(rt, stream);
     let mut text = Vec::new(rt.alloc());
-    let mut session = Session::new(rt.alloc());
+    let mut session = Machine::new(rt.alloc());
     let mut desk = Script::new(rt.alloc(), answers);
-    let mut has_ended = false;
     for piece in bytes.chunks(size.max(1)) {
-        match read_piece(rt, &mut text, &mut session, &mut desk, piece) {
-            Some(flow) => has_ended = flow == Flow::Ends,
-            None => check(rt, has_ended, stream),
-        }
+        let had_ended = session.phase() == Phase::Ended;
+        let is_taken = read_piece(rt, &mut text, &mut session, &mut desk, piece);
+        check(rt, is_taken != had_ended, stream);
     }
-    check(rt, has_ended == ends, stream);
+    check(rt, (session.phase() == Phase::Ended) == ends, stream);
     check_bytes(rt, stream, &text, &unfolded(rt, wanted));
     check_bytes(rt, stream, desk.asked(), &unfolded(rt, asked));
 }
@@ -166,46 +207,102 @@ fn streams_are_answered_in_pieces_of_any_size(rt: HostRuntime) {
     }
 }
 
-/// What is behind the text of a piece: a bar, with `!` before it where the session ends and `?` where it had ended.
-fn mark(flow: Option<Flow>) -> &'static [u8] {
-    match flow {
-        Some(Flow::GoesOn) => b"|",
-        Some(Flow::Ends) => b"!|",
-        None => b"?|",
-    }
-}
-
-/// The texts of the pieces, each with its mark, and what the desk was asked.
-fn check_texts(rt: &(impl AllocGlobal + Abort), answers: &str, pieces: &str, wanted: &str) {
+/// A session whose stream came before it was asked anything has a row's answers.
+fn check_late(rt: &(impl AllocGlobal + Abort), row: &Row) {
+    let (stream, answers, wanted, asked, _ends) = *row;
+    let bytes = unfolded(rt, stream);
     let mut text = Vec::new(rt.alloc());
-    let mut session = Session::new(rt.alloc());
+    let mut session = Machine::new(rt.alloc());
     let mut desk = Script::new(rt.alloc(), answers);
-    for piece in pieces.split('|') {
-        let bytes = unfolded(rt, piece);
-        let flow = read_piece(rt, &mut text, &mut session, &mut desk, &bytes);
-        push(rt, &mut text, mark(flow));
+    for piece in bytes.chunks(7) {
+        check(rt, session.feed(piece).is_ok(), "a piece");
     }
-    push(rt, &mut text, desk.asked());
-    check_bytes(rt, pieces, &text, &unfolded(rt, wanted));
+    answer_all(rt, &mut session, &mut desk);
+    write_output(rt, &mut session, 5, &mut text);
+    check_bytes(rt, stream, &text, &unfolded(rt, wanted));
+    check_bytes(rt, stream, desk.asked(), &unfolded(rt, asked));
 }
 
 #[test]
-fn a_session_that_has_ended_answers_nothing(rt: HostRuntime) {
-    check_texts(&rt, "d", "quit~|delete a~", "!|?|");
+fn a_stream_may_come_before_it_is_answered(rt: HostRuntime) {
+    for row in &ROWS {
+        check_late(&rt, row);
+    }
+}
+
+/// A session that answered so many lines by itself.
+fn versions(rt: &(impl AllocGlobal + Abort), count: usize) -> Machine {
+    let mut session = Machine::new(rt.alloc());
+    for _line in 0..count {
+        check(rt, session.feed(b"version\r\n").is_ok(), "a line");
+    }
+    check(rt, matches!(session.next_request(), Ok(None)), "no request");
+    session
 }
 
 #[test]
-fn the_text_is_that_of_the_last_piece(rt: HostRuntime) {
-    check(&rt, Session::new(rt.alloc()).text().is_empty(), "no text");
-    let pieces = "delete a~|delete b~del|ete c";
-    let wanted = "DELETED~|NOT_FOUND~||delete a~delete b~";
-    check_texts(&rt, "d/n", pieces, wanted);
+fn long_output_is_written_in_parts(rt: HostRuntime) {
+    let mut session = versions(&rt, 1_000);
+    let mut text = Vec::new(rt.alloc());
+    for _part in 0..22 {
+        write_part(&rt, &mut session, 700, &mut text);
+    }
+    check(&rt, session.output().is_empty(), "all is written");
+    check(&rt, text.len() == 15_000, "each answer");
+    for line in text.as_slice().chunks(15) {
+        check(&rt, line == b"VERSION mcv 1\r\n".as_slice(), "an answer");
+    }
+    check(&rt, session.feed(b"get a\r\n").is_ok(), "goes on");
+    check(
+        &rt,
+        matches!(session.next_request(), Ok(Some(_))),
+        "a request",
+    );
+}
+
+#[test]
+fn a_session_that_has_ended_takes_nothing(rt: HostRuntime) {
+    let mut session = Machine::new(rt.alloc());
+    check(&rt, session.feed(b"quit\r\n").is_ok(), "quit");
+    check(
+        &rt,
+        matches!(session.next_request(), Ok(None)),
+        "no request",
+    );
+    check(&rt, session.phase() == Phase::Ended, "ended");
+    let again = session.feed(b"delete a\r\n");
+    check(&rt, again == Err(SessionFault::Ended), "nothing more");
+}
+
+#[test]
+fn one_request_is_out_at_a_time(rt: HostRuntime) {
+    let mut session = Machine::new(rt.alloc());
+    check(&rt, session.refuse(DeskFault::Busy).is_err(), "none is out");
+    check(&rt, session.feed(b"get a\r\nget b\r\n").is_ok(), "two");
+    check(
+        &rt,
+        matches!(session.next_request(), Ok(Some(_))),
+        "the first",
+    );
+    check(&rt, matches!(session.next_request(), Ok(None)), "is out");
+    check(&rt, session.refuse(DeskFault::Busy).is_ok(), "answered");
+    check(
+        &rt,
+        matches!(session.next_request(), Ok(Some(_))),
+        "the second",
+    );
+    check(
+        &rt,
+        session.output() == b"SERVER_ERROR busy\r\n".as_slice(),
+        "one answer",
+    );
 }
 
 #[test]
 fn a_session_is_moved(rt: HostRuntime) {
     let mut desk = Script::new(rt.alloc(), "d");
-    let mut session = moved(&rt, Session::new(rt.alloc()));
-    let flow = session.read(&mut desk, b"delete a\r\n");
-    check(&rt, flow == Ok(Flow::GoesOn), "goes on");
+    let mut text = Vec::new(rt.alloc());
+    let mut session = moved(&rt, Machine::new(rt.alloc()));
+    let is_taken = read_piece(&rt, &mut text, &mut session, &mut desk, b"delete a\r\n");
+    check(&rt, is_taken, "goes on");
 }

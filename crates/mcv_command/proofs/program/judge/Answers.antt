@@ -9,7 +9,7 @@ returns-in_err-verdict-clause-stop g c held =
     let known = g.R.Read.remaining c.args.reader.now in
     let gone = err_from_is_err_and c.from_residual.result c.from_residual.ensures.1 in
     rw (gone.1)
-    (subst (λ (stop : Stop). IsJudgingFault held None c.args.window.seconds known stop) (sym gone.2) (inr c.in_err-verdict.ensures.fault))
+    (subst (λ (stop : Stop). IsJudgingFault held None c.args.options.window.seconds known stop) (sym gone.2) (inr c.in_err-verdict.ensures.fault))
 
 pub returns-clause-done : goal.returns-clause-done
 returns-clause-done g c held =

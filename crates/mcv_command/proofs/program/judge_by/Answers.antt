@@ -3,9 +3,9 @@ use Rattle.std.specs.Prelude.{IfSome}
 use Rattle.std.proofs.lemmas.Result.{err_from_is_err_and}
 use Rattle.mcv_command.specs.Program.{Held, IsJudgingFault}
 use Rattle.mcv_command.specs.declared.stop.Stop.{Stop}
-use Rattle.mcv_command.proofs.ProgramEnds.{fault_by_all, given_all, read_limit, verdict_by_all}
+use Rattle.mcv_command.proofs.ProgramEnds.{fault_by_all, given_all, read_limit, verdict_as_by_all}
+use Rattle.mcv_show.specs.Explained.{IsVerdictAs}
 use Rattle.mcv_verdict.specs.Fault as check
-use Rattle.mcv_verdict.specs.Verdict.{IsVerdictOn}
 use Rattle.mcv_command.proofs.program.judge_by.Goals as goal
 
 pub returns-in_err-text-clause-stop : goal.returns-in_err-text-clause-stop
@@ -14,7 +14,7 @@ returns-in_err-text-clause-stop g c =
     let held : Held = g.F.NamedFiles.held c.args.files.now in
     let gone = err_from_is_err_and c.from_residual.result c.from_residual.ensures.1 in
     rw (gone.1)
-    (subst (λ (stop : Stop). IsJudgingFault held (Some c.args.name.now) c.args.window.seconds known stop) (sym gone.2) (inl c.in_err-text.ensures.fault))
+    (subst (λ (stop : Stop). IsJudgingFault held (Some c.args.name.now) c.args.options.window.seconds known stop) (sym gone.2) (inl c.in_err-text.ensures.fault))
 
 pub returns-in_err-verdict-clause-stop : goal.returns-in_err-verdict-clause-stop
 returns-in_err-verdict-clause-stop g c =
@@ -27,8 +27,8 @@ returns-in_err-verdict-clause-stop g c =
     let fault = c.in_err-verdict.field-0.0 in
     let gone = err_from_is_err_and c.from_residual-in_err-verdict.result c.from_residual-in_err-verdict.ensures.1 in
     rw (gone.1)
-    (subst (λ (stop : Stop). IsJudgingFault held (Some name) c.args.window.seconds known stop) (sym gone.2)
-    (inr (given_all held name first known (λ bytes certificate. check.IsRunFault bytes c.args.window.seconds certificate fault) read (λ bytes all is here. fault_by_all bytes c.args.window.seconds all first fault is here) c.in_err-verdict.ensures.fault)))
+    (subst (λ (stop : Stop). IsJudgingFault held (Some name) c.args.options.window.seconds known stop) (sym gone.2)
+    (inr (given_all held name first known (λ bytes certificate. check.IsRunFault bytes c.args.options.window.seconds certificate fault) read (λ bytes all is here. fault_by_all bytes c.args.options.window.seconds all first fault is here) c.in_err-verdict.ensures.fault)))
 
 pub returns-clause-done : goal.returns-clause-done
 returns-clause-done g c =
@@ -42,7 +42,7 @@ returns-clause-done g c =
     let verdict = c.in_ok-verdict.verdict in (
       verdict,
       ok.0,
-      given_all held name first known (λ bytes certificate. IsVerdictOn bytes c.args.window.seconds certificate verdict ok.0) read (λ bytes all is here. verdict_by_all bytes c.args.window.seconds all first verdict ok.0 is here) ok.1,
+      given_all held name first known (λ bytes certificate. IsVerdictAs c.args.options bytes certificate verdict ok.0) read (λ bytes all is here. verdict_as_by_all c.args.options bytes all first verdict ok.0 is here) ok.1,
       ok.2,
       c.ending_of.ensures,
     )

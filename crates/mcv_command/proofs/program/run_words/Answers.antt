@@ -46,7 +46,7 @@ pub returns-in-Ok-Check-None-default-clause-done : goal.returns-in-Ok-Check-None
 returns-in-Ok-Check-None-default-clause-done g c =
     let held = g.F.NamedFiles.held c.args.files.now in
     let asks = rw (c.in-Ok-Check-None-default.field-0-is, c.in-Ok-Check-None-default.field-0-0-is) at c.in-Ok-Check-None-default.ensures.job in
-    IfOk-weaker c.judge.result _ _ (λ ending judged. inr (inr (inl (None, c.in-Ok-Check-None-default.window, asks, judged)))) (c.judge.ensures.done held)
+    IfOk-weaker c.judge.result _ _ (λ ending judged. inr (inr (inl (None, c.in-Ok-Check-None-default.options, asks, judged)))) (c.judge.ensures.done held)
 
 pub returns-in-Ok-Check-None-default-clause-stop : goal.returns-in-Ok-Check-None-default-clause-stop
 returns-in-Ok-Check-None-default-clause-stop g c =
@@ -54,7 +54,7 @@ returns-in-Ok-Check-None-default-clause-stop g c =
     let held = g.F.NamedFiles.held c.args.files.now in
     let known = g.R.Read.remaining c.args.reader.now in
     let asks = rw (c.in-Ok-Check-None-default.field-0-is, c.in-Ok-Check-None-default.field-0-0-is) at c.in-Ok-Check-None-default.ensures.job in
-    IfErr-weaker c.judge.result _ _ (λ stop holds. judging_stop words held known None c.in-Ok-Check-None-default.window stop asks holds) (c.judge.ensures.stop held)
+    IfErr-weaker c.judge.result _ _ (λ stop holds. judging_stop words held known None c.in-Ok-Check-None-default.options stop asks holds) (c.judge.ensures.stop held)
 
 pub returns-in-Ok-Check-None-default-clause-silent : goal.returns-in-Ok-Check-None-default-clause-silent
 returns-in-Ok-Check-None-default-clause-silent g c = IfErr-weaker c.judge.result _ _ (λ stop silent no_device unasked unlisted. silent no_device) c.judge.ensures.silent
@@ -65,7 +65,7 @@ returns-in-Ok-Check-Some-default-clause-silent g c = IfErr-weaker c.judge_by.res
 pub returns-in-Ok-Mend-clause-done : goal.returns-in-Ok-Mend-clause-done
 returns-in-Ok-Mend-clause-done g c =
     let asks = rw c.in-Ok-Mend.field-0-is at c.in-Ok-Mend.ensures.job in
-    IfOk-weaker c.mend.result _ _ (λ ending mended. inr (inr (inr (inl (asks, mended))))) c.mend.ensures.done
+    IfOk-weaker c.mend.result _ _ (λ ending mended. inr (inr (inr (inl (c.in-Ok-Mend.patch, asks, mended))))) c.mend.ensures.done
 
 pub returns-in-Ok-Mend-clause-stop : goal.returns-in-Ok-Mend-clause-stop
 returns-in-Ok-Mend-clause-stop g c =
@@ -73,7 +73,7 @@ returns-in-Ok-Mend-clause-stop g c =
     let held = g.F.NamedFiles.held c.args.files.now in
     let known = g.R.Read.remaining c.args.reader.now in
     let asks = rw c.in-Ok-Mend.field-0-is at c.in-Ok-Mend.ensures.job in
-    IfErr-weaker c.mend.result _ _ (λ stop holds. mending_stop words held known stop asks holds) c.mend.ensures.stop
+    IfErr-weaker c.mend.result _ _ (λ stop holds. mending_stop words held known c.in-Ok-Mend.patch stop asks holds) c.mend.ensures.stop
 
 pub returns-in-Ok-Mend-clause-silent : goal.returns-in-Ok-Mend-clause-silent
 returns-in-Ok-Mend-clause-silent g c = IfErr-weaker c.mend.result _ _ (λ stop silent no_device unasked unlisted. silent no_device) c.mend.ensures.silent
@@ -103,7 +103,7 @@ returns-in-Ok-Run-clause-silent g c =
 pub returns-in-Ok-Check-Some-default-clause-done : goal.returns-in-Ok-Check-Some-default-clause-done
 returns-in-Ok-Check-Some-default-clause-done g c =
     let asks = rw (c.in-Ok-Check-Some-default.field-0-is, c.in-Ok-Check-Some-default.field-0-0-is) at c.in-Ok-Check-Some-default.ensures.job in
-    IfOk-weaker c.judge_by.result _ _ (λ ending judged. inr (inr (inl (Some c.in-Ok-Check-Some-default.name.now, c.in-Ok-Check-Some-default.window, asks, judged)))) c.judge_by.ensures.done
+    IfOk-weaker c.judge_by.result _ _ (λ ending judged. inr (inr (inl (Some c.in-Ok-Check-Some-default.name.now, c.in-Ok-Check-Some-default.options, asks, judged)))) c.judge_by.ensures.done
 
 pub returns-in-Ok-Check-Some-default-clause-stop : goal.returns-in-Ok-Check-Some-default-clause-stop
 returns-in-Ok-Check-Some-default-clause-stop g c =
@@ -111,7 +111,7 @@ returns-in-Ok-Check-Some-default-clause-stop g c =
     let held = g.F.NamedFiles.held c.args.files.now in
     let known = g.R.Read.remaining c.args.reader.now in
     let asks = rw (c.in-Ok-Check-Some-default.field-0-is, c.in-Ok-Check-Some-default.field-0-0-is) at c.in-Ok-Check-Some-default.ensures.job in
-    IfErr-weaker c.judge_by.result _ _ (λ stop holds. judging_stop words held known (Some c.in-Ok-Check-Some-default.name.now) c.in-Ok-Check-Some-default.window stop asks holds) c.judge_by.ensures.stop
+    IfErr-weaker c.judge_by.result _ _ (λ stop holds. judging_stop words held known (Some c.in-Ok-Check-Some-default.name.now) c.in-Ok-Check-Some-default.options stop asks holds) c.judge_by.ensures.stop
 
 pub returns-in-Ok-Spool-clause-done : goal.returns-in-Ok-Spool-clause-done
 returns-in-Ok-Spool-clause-done g c =
@@ -153,12 +153,12 @@ returns-in_err-write_text-in-Err-Version-clause-listed g c = λ slot is.
 pub returns-in-Ok-Check-None-default-clause-listed : goal.returns-in-Ok-Check-None-default-clause-listed
 returns-in-Ok-Check-None-default-clause-listed g c = λ slot is.
     let held = g.F.NamedFiles.held c.args.files.now in
-    absurd (judged_whole _ held None c.in-Ok-Check-None-default.window.seconds (g.R.Read.remaining c.args.reader.now) slot (c.judge.ensures.stop held) is)
+    absurd (judged_whole _ held None c.in-Ok-Check-None-default.options.window.seconds (g.R.Read.remaining c.args.reader.now) slot (c.judge.ensures.stop held) is)
 
 pub returns-in-Ok-Check-Some-default-clause-listed : goal.returns-in-Ok-Check-Some-default-clause-listed
 returns-in-Ok-Check-Some-default-clause-listed g c = λ slot is.
     let held = g.F.NamedFiles.held c.args.files.now in
-    absurd (judged_whole _ held (Some c.in-Ok-Check-Some-default.name.now) c.in-Ok-Check-Some-default.window.seconds (g.R.Read.remaining c.args.reader.now) slot c.judge_by.ensures.stop is)
+    absurd (judged_whole _ held (Some c.in-Ok-Check-Some-default.name.now) c.in-Ok-Check-Some-default.options.window.seconds (g.R.Read.remaining c.args.reader.now) slot c.judge_by.ensures.stop is)
 
 pub returns-in-Ok-Run-clause-listed : goal.returns-in-Ok-Run-clause-listed
 returns-in-Ok-Run-clause-listed g c = λ slot is.

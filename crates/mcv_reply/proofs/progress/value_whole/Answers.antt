@@ -13,7 +13,7 @@ returns c =
     let q = c.args.progress.now in
     let piece = c.args.piece.now in
     let made : c.extend_from_slice.new.self.items ≡ q.body.items ++ take c.args.missing piece = grind (arith, common_steps) in (
-      omega (arith, c.requires.ends.within),
       omega arith,
+      omega (arith, c.requires.ends.within),
       value_step c.args.op c.args.key.now q.head q.first.items q.body.items piece c.args.missing c.requires.at.0 c.requires.missing c.requires.ends c.extend_from_slice.new.self.items c.has_cas.result c.in_ok-reply.reply q made c.has_cas.ensures c.in_ok-reply.ensures,
     )

@@ -10,7 +10,7 @@ returns-in-Ends-clause-ok g c =
     let read = rw c.in-Some.is at c.in_ok-count.ensures.ok in record {
       flow = c.in_ok-serve_piece.field-0;
       rest = c.serve_piece.new.session.reader;
-      served = served_more g.D.Desk.asks c.any_pieces.ensures _ _ _ _ _ _ _ _ _ _ _ _ _ _ c.loop-turn.invariant.so_far read.1 c.in_ok-serve_piece.ensures.ok c.in_ok-serve_piece.ensures.text;
+      served = served_more g.D.Desk.asks c.any_pieces.ensures _ _ _ _ _ _ _ _ _ _ _ _ _ _ c.loop-turn.invariant.so_far read.1 c.in_ok-serve_piece.ensures.ok.1 c.in_ok-serve_piece.ensures.ok.2;
       ended = inl c.in-Ends.is;
     }
 
@@ -20,6 +20,6 @@ loop-turn-preserved g c =
       live = c.in_ok-serve_piece.ensures.live c.in-GoesOn.is;
       size = c.next_piece.auto.room ∙ c.loop-turn.invariant.size;
       so_far = served_on g.D.Desk.asks _ _ _ _ _ _ _ _
-          (served_more g.D.Desk.asks c.any_pieces.ensures _ _ _ _ _ _ _ _ _ _ _ _ _ _ c.loop-turn.invariant.so_far read.1 c.in_ok-serve_piece.ensures.ok c.in_ok-serve_piece.ensures.text)
+          (served_more g.D.Desk.asks c.any_pieces.ensures _ _ _ _ _ _ _ _ _ _ _ _ _ _ c.loop-turn.invariant.so_far read.1 c.in_ok-serve_piece.ensures.ok.1 c.in_ok-serve_piece.ensures.ok.2)
           c.in-GoesOn.is;
     }

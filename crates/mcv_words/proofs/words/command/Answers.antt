@@ -20,7 +20,7 @@ returns c =
     let three : app_of c.in_ok-subcommand-2.field-0 ≡ with_subcommand (with_subcommand (wanting_a_command (with_version (new_app (codes "mcv")))) check_app.top) legs_app.top =
     c.in_ok-subcommand-2.ensures.shape c.in_ok-legs.ensures.local ∙ ap₂ with_subcommand both (ap (λ (a : App). a.top) c.in_ok-legs.ensures.app) in
     let four : app_of c.in_ok-subcommand-3.field-0 ≡ with_subcommand (with_subcommand (with_subcommand (wanting_a_command (with_version (new_app (codes "mcv")))) check_app.top) legs_app.top) mend_app.top =
-    c.in_ok-subcommand-3.ensures.shape c.mend_command.ensures.local ∙ ap₂ with_subcommand three (ap (λ (a : App). a.top) c.mend_command.ensures.app) in
+    c.in_ok-subcommand-3.ensures.shape c.in_ok-mend.ensures.local ∙ ap₂ with_subcommand three (ap (λ (a : App). a.top) c.in_ok-mend.ensures.app) in
     let five : app_of c.in_ok-subcommand-4.field-0 ≡ with_subcommand (with_subcommand (with_subcommand (with_subcommand (wanting_a_command (with_version (new_app (codes "mcv")))) check_app.top) legs_app.top) mend_app.top) run_app.top =
     c.in_ok-subcommand-4.ensures.shape c.in_ok-run.ensures.local ∙ ap₂ with_subcommand four (ap (λ (a : App). a.top) c.in_ok-run.ensures.app) in
     IfOk-weaker c.subcommand-5.result _ _

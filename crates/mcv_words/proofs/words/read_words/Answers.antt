@@ -8,7 +8,7 @@ use Rattle.clap.proofs.ValueTestLemmas.{accepts-Accepts}
 use Rattle.mcv_words.specs.Ranges.{window_limit}
 use Rattle.mcv_words.specs.Words.{mcv_app}
 use Rattle.mcv_words.proofs.OptionValues.{at_parser, check_values, legs_values, run_values, spool_values}
-use Rattle.mcv_words.proofs.Matches.{can_run, check_asked, fault_of_kind, given_in, named_rows, name_of_rows, no_number, number_of, run_asked, spool_asked}
+use Rattle.mcv_words.proofs.Matches.{can_run, check_asked, fault_of_kind, given_in, named_rows, name_of_rows, no_number, number_of, run_asked, spool_asked, mend_asked}
 use Rattle.mcv_words.proofs.CommandIsNamed.{taken}
 use Rattle.mcv_words.proofs.words.read_words.Goals as goal
 
@@ -50,9 +50,9 @@ returns-in-Some-subcommand_matches-clause-job c =
     let words : List Text = map (λ w. w.now) c.args.words.now in
     let held = (c.in-Ok.ensures.matches (ap is_simple c.in_ok-command.ensures ∙ simple)).1 ∙ ap (λ (a : App). subcommand_of a words) c.in_ok-command.ensures in
     let none = sym (ap (λ (a : App). fault_of a words) c.in_ok-command.ensures) ∙ c.in-Ok.ensures.kinds (ap is_simple_and_free c.in_ok-command.ensures ∙ free) in
-    let found = found_of c.in-Some-subcommand_matches._found.now in
+    let found = found_of c.in-Some-subcommand_matches.mending.now in
     let mend = sym held ∙ named_rows c.in-Ok.matches (codes "mend") (rows_of found) (c.in-Some-subcommand_matches.ensures.found.0 refl) c.in-Some-subcommand_matches.ensures.rows in
-    (none, rows_of found, mend)
+    mend_asked words (rows_of found) c.mend_job.result none mend c.mend_job.ensures
 
 pub returns-in_default-run_job-clause-fault : goal.returns-in_default-run_job-clause-fault
 returns-in_default-run_job-clause-fault c =

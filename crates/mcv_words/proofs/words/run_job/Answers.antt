@@ -28,5 +28,6 @@ returns-clause-job c =
         window = rw c.in-Some-3.is at c.in_ok-window.ensures.number;
         server_timeout = c.in_ok-server_timeout.ensures.number;
         client_timeout = c.in_ok-client_timeout.ensures.number;
+        max_clients = c.in_ok-max_clients.ensures.number;
       };
     }

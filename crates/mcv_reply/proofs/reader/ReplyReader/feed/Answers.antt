@@ -14,11 +14,11 @@ take_piece-requires c =
       clean = subst (λ (t : List ℕ). is_clean t ≡ true) (sym c.as_bytes.ensures.value) (key_clean c.deref.result.now c.as_bytes.ensures.valid);
       short = subst (λ (t : List ℕ). length t ≤ 250) (sym c.as_bytes.ensures.value) (key_short c.deref.result.now c.as_bytes.ensures.valid);
       at = subst (λ (t : List ℕ). IsAt c.self.inside.op t c.self.inside.progress) (sym key_is) c.self.invariant;
-      fed = fed_at c.self.inside.progress c.self.inside.progress.stage c.in-Line.is;
+      fed = fed_at c.self.inside.progress c.self.inside.progress.stage c.in-Start.is;
     }
 
-pub returns-in-Line : goal.returns-in-Line
-returns-in-Line c =
+pub returns-in-Start : goal.returns-in-Start
+returns-in-Start c =
     let p = c.self.inside.progress in
     let new = c.take_piece.new.progress in
     let key_is : c.as_bytes.result.now ≡ arc_value c.self.inside.rest = c.as_bytes.ensures.value ∙ c.deref.ensures in
@@ -26,6 +26,6 @@ returns-in-Line c =
     subst (λ (v : Reading). Feeds v c.args.piece.now c.take_piece.result last) c.self.view_is (record {
       op = refl;
       key = refl;
-      answers = feeds_at c.self.inside.op (arc_value c.self.inside.rest) (reader_state_at p.stage p) (reader_state_at new.stage new) c.args.piece.now c.take_piece.result (fed_at p p.stage c.in-Line.is)
+      answers = feeds_at c.self.inside.op (arc_value c.self.inside.rest) (reader_state_at p.stage p) (reader_state_at new.stage new) c.args.piece.now c.take_piece.result (fed_at p p.stage c.in-Start.is)
           (λ bytes e. subst (λ (t : List ℕ). Answers c.self.inside.op t (bytes ++ c.args.piece.now) c.take_piece.result (reader_state_at new.stage new)) key_is (c.take_piece.ensures.answers bytes e));
     })

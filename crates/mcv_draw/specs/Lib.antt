@@ -1,0 +1,10 @@
+pub mod Children
+pub mod Dot
+pub mod Drawn
+pub mod Element
+pub mod Label
+pub mod Marks
+pub mod Markup
+pub mod Positions
+pub mod Svg
+pub mod Walk

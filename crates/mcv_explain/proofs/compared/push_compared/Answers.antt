@@ -1,0 +1,7 @@
+use Rattle.std.proofs.Common.{map}
+use Rattle.std.proofs.lemmas.Result.{on_ok_weaker}
+use Rattle.mcv_base.specs.declared.request.Moment.{Moment}
+use Rattle.mcv_explain.proofs.compared.push_compared.Goals as goal
+
+pub returns : goal.returns
+returns c = on_ok_weaker c.push_counts.result (λ is. (map (λ (m : Moment). m.0) c.breaks-table.result.now, c.breaks-table.ensures, is)) c.push_counts.ensures

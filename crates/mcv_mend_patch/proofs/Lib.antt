@@ -1,0 +1,3 @@
+pub mod WholeInput
+pub mod Documents
+pub mod Patches

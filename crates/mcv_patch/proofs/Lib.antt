@@ -1,0 +1,5 @@
+pub mod Depth
+pub mod Behind
+pub mod Pieces
+pub mod Put
+mod Examples

@@ -1,0 +1,4 @@
+pub mod Numbers
+pub mod Landing
+pub mod Life
+pub mod Examples

@@ -1,0 +1,6 @@
+//! Tests of the legs in flight over one connection. They are apart from the crate that they call, so that it isn't proved a second
+//! time for them.
+#![tactic(auto)]
+
+#[cfg(test)]
+mod pipelines;
