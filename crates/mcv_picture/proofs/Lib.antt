@@ -1,0 +1,3 @@
+mod RoutesInTurn
+mod Verdicts
+mod Marking
