@@ -1,5 +1,6 @@
 -- What deletes and gets of a finding's keys reach: by the tree, the member and the breaks of its spot.
-use Rattle.std.proofs.Common.{◌≡◌, ◌∙◌, ℕ, List, [], ◌∷◌, Option, Some, None, ap, arith, none-some, option_map, same_Some, subst, sym}
+use Rattle.std.proofs.Common.{◌≡◌, ◌∙◌, ℕ, List, [], ◌∷◌, Option, Some, None, ap, arith, option_map, subst, sym}
+use Rattle.std.proofs.lemmas.Option.{none-some, same_Some}
 use Rattle.std.specs.Prelude.{slice_get}
 use Rattle.mcv_blocks.proofs.RouteClasses.{route_at}
 use Rattle.mcv_blocks.specs.Blocks.{IsSpotOf}

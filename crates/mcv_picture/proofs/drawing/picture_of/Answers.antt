@@ -9,7 +9,7 @@ use Rattle.mcv_picture.proofs.drawing.picture_of.Goals as goal
 pub overflow_add-number : goal.overflow_add-number
 overflow_add-number c =
     let within = number_within c.args.routes.now c.loop-route.number (view c.in-Some.route.now) c.in-Some.ensures in
-    let few = few_routes c.args.routes.now c.servers-_servers.ensures.limits in
+    let few = few_routes c.args.routes.now c.servers-servers.ensures.limits in
     omega (arith, within, few)
 
 pub loop-route-init : goal.loop-route-init

@@ -2,7 +2,7 @@ use Rattle.std.proofs.Common.{◌∙◌, ◌++◌, List, ℕ, ap, map, subst}
 use Rattle.mcv_blocks.specs.Blocks.{AreLeavesAt, IsAcknowledgedAt, positions_of}
 use Rattle.mcv_blocks.specs.Sets.{SetsValue}
 use Rattle.mcv_judge.specs.PairsInMemory.{legs_of}
-use Rattle.mcv_witness.specs.Finding.{finding_of, outcomes_of}
+use Rattle.mcv_witness.specs.Finding.{outcomes_of}
 use Rattle.mcv_witness.specs.declared.finding.LegOutcome.{LegOutcome}
 use Rattle.mcv_picture.proofs.marks.deletes_to.Goals as goal
 
