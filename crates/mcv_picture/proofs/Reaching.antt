@@ -3,7 +3,6 @@ use Rattle.std.proofs.Common.{◌≡◌, ◌∙◌, ℕ, List, [], ◌∷◌, Op
 use Rattle.std.proofs.lemmas.Option.{none-some, same_Some}
 use Rattle.std.specs.Prelude.{slice_get}
 use Rattle.mcv_blocks.proofs.RouteClasses.{route_at}
-use Rattle.mcv_blocks.specs.Blocks.{IsSpotOf}
 use Rattle.mcv_classes.specs.Class.{IsMember}
 use Rattle.mcv_classes.specs.Table.{IsWordTable}
 use Rattle.mcv_classes.specs.Words.{class_words}

@@ -1,4 +1,4 @@
-use Rattle.std.proofs.Common.{List, ℕ, None, IfSome, sym, subst}
+use Rattle.std.proofs.Common.{None, IfSome, sym, subst}
 use Rattle.std.proofs.lemmas.Option.{IfSome_then}
 use Rattle.std.proofs.lemmas.Result.{err_from_is_err_and}
 use Rattle.mcv_input.specs.declared.fault.RunFault.{RunFault}
