@@ -24,7 +24,7 @@ use Rattle.mcv_verdict.specs.declared.verdict.Verdict.TheVariants.{Covered, Lost
 use Rattle.mcv_command.specs.declared.stop.Ending.{Ending}
 use Rattle.mcv_command.specs.declared.stop.Stop.{Stop}
 use Rattle.mcv_command.specs.declared.stop.Stop.TheVariants.{BadLine, Mended, NoChange, Run, Damaged}
-use Rattle.mcv_command.specs.Program.{GivesJson, Held, IfGiven, IsDrawingStop, IsJudgingFault, IsListingStop, IsMendingStop, IsReportedStop, IsStop}
+use Rattle.mcv_command.specs.Program.{AsksAnyRun, AsksAnySpool, AsksReport, GivesJson, Held, IfGiven, IsDrawingStop, IsJudgingFault, IsListingStop, IsMendingStop, IsReportedStop, IsStop}
 use Rattle.mcv_command.specs.Stop.{of_records, stop_of_mending}
 use Rattle.mcv_words.specs.Words.{AsksCheck, AsksDraw, AsksMend, AsksRun, AsksSpool, RunOrder, SpoolOrder, named}
 use Rattle.mcv_words.specs.declared.options.CheckOptions.{CheckOptions}
@@ -48,11 +48,12 @@ running_stop words held input order (Mended fault) asks holds = absurd holds
 running_stop words held input order NoChange asks holds = absurd holds
 
 -- a call that writes nothing on a fault where no report is asked for writes nothing where the words ask for none
-pub silent_unless_json : {T : Type 0} (json : Bool) (r : Result T Stop) (Same : Type 0) {NoDevice Unasked : Stop → Type 0} {Unlisted Report : Type 0} → (json ≡ true → Report)
-    → (json ≡ false → IfErr r (λ stop. NoDevice stop → Same)) → IfErr r (λ stop. NoDevice stop → Unasked stop → Unlisted → ¬ Report → Same)
-silent_unless_json json (Ok x) Same asks silent = tt
-silent_unless_json true (Err stop) Same asks silent = λ no_device unasked unlisted unreported. absurd (unreported (asks refl))
-silent_unless_json false (Err stop) Same asks silent = λ no_device unasked unlisted unreported. silent refl no_device
+pub silent_unless_json : {T : Type 0} (words : List Text) (json : Bool) (r : Result T Stop) (Same : Type 0) → (json ≡ true → AsksReport words)
+    → (json ≡ false → IfErr r (λ stop. stop ≢ Run Device → Same))
+    → IfErr r (λ stop. stop ≢ Run Device → (stop ≡ Run Memory → ¬ AsksAnyRun words) → ¬ AsksAnySpool words → ¬ AsksReport words → Same)
+silent_unless_json words json (Ok x) Same asks silent = tt
+silent_unless_json words true (Err stop) Same asks silent = λ no_device unasked unlisted unreported. absurd (unreported (asks refl))
+silent_unless_json words false (Err stop) Same asks silent = λ no_device unasked unlisted unreported. silent refl no_device
 
 -- ---- a report in place of a verdict
 

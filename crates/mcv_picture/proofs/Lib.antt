@@ -1,3 +1,4 @@
 mod RoutesInTurn
 mod Verdicts
 mod Marking
+mod Reaching

@@ -1,10 +1,12 @@
 -- What marks are made of.
-use Rattle.std.proofs.Common.{◌≡◌, ◌∙◌, ℕ, List, [], Some, None, ap}
-use Rattle.std.specs.Prelude.{bytes_eq}
+use Rattle.std.proofs.Common.{◌≡◌, ◌∙◌, ℕ, true, List, [], Some, None, ap}
 use Rattle.std.specs.List.{flat_map}
 use Rattle.mcv_cert.specs.Pair.{CertificateValue, PairValue}
-use Rattle.mcv_draw.specs.Marks.{MarksValue, leads_to, marks_by}
-use Rattle.mcv_picture.specs.Drawing.{ShowsLegs, certificate_marks, no_marks, own_leaf, own_legs}
+use Rattle.mcv_draw.specs.Marks.{MarksValue, marks_by}
+use Rattle.mcv_route.specs.Routes.{RoutesValue}
+use Rattle.mcv_witness.specs.Finding.{FindingValue}
+use Rattle.mcv_picture.specs.Drawing.{ShowsIf, certificate_marks, no_marks, own_leaf, own_legs, shown_legs}
+use Rattle.mcv_picture.specs.Reached.{AreReached}
 
 pub nothing_shown : (m : MarksValue) (deletes readable shown : List (List ℕ)) → m ≡ marks_by deletes readable shown None → shown ≡ [] → m ≡ marks_by deletes readable [] None
 nothing_shown m deletes readable shown is none = is ∙ ap (λ (legs : List (List ℕ)). marks_by deletes readable legs None) none
@@ -20,9 +22,7 @@ marked_by m c number pairs deletes readable is legs leaves of =
     ∙ (ap (λ (xs : List (List ℕ)). marks_by xs readable [] None) (legs ∙ ap (flat_map (own_legs number)) of)
     ∙ ap (λ (xs : List (List ℕ)). marks_by (flat_map (own_legs number) c.pairs) xs [] None) (leaves ∙ ap (flat_map (own_leaf number)) of))
 
-pub legs_shown : (m : MarksValue) (deletes readable shown legs : List (List ℕ)) (marked leaf : List ℕ) → m ≡ marks_by deletes readable shown (Some marked) → shown ≡ legs → marked ≡ leaf
-    → ShowsLegs legs leaf m
-legs_shown m deletes readable shown legs marked leaf is same at = record {
-  shown = λ p. ap (λ (x : MarksValue). x.shown p) is ∙ ap (λ (xs : List (List ℕ)). leads_to xs p) same;
-  lost = λ p. ap (λ (x : MarksValue). x.lost p) is ∙ ap (λ (xs : List ℕ). bytes_eq xs p) at;
-}
+pub legs_shown : (r : RoutesValue) (f : FindingValue) (m : MarksValue) (deletes readable shown : List (List ℕ)) (marked : List ℕ) → AreReached r f deletes readable
+    → m ≡ marks_by deletes readable shown (Some marked) → shown ≡ shown_legs f → marked ≡ f.place.leaf → ShowsIf true r f m
+legs_shown r f m deletes readable shown marked reached is same at =
+    (deletes, readable, reached, is ∙ (ap (λ (xs : List (List ℕ)). marks_by deletes readable xs (Some marked)) same ∙ ap (λ (xs : List ℕ). marks_by deletes readable (shown_legs f) (Some xs)) at))

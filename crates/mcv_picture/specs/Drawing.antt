@@ -1,5 +1,5 @@
 -- What is drawn of a configuration (own).
-use Rattle.std.specs.Prelude.{◌≡◌, ◌==◌, ◌+◌, ℕ, Bool, true, false, List, [], ◌∷◌, ◌++◌, None, if◌then◌else◌, bytes_eq, length, map}
+use Rattle.std.specs.Prelude.{◌≡◌, ◌==◌, ◌+◌, ℕ, Bool, true, false, List, [], ◌∷◌, ◌++◌, Some, None, if◌then◌else◌, length, map}
 use Rattle.std.specs.List.{All, flat_map, slice_split}
 use Rattle.mcv_cert.specs.Pair.{CertificateValue, PairValue}
 use Rattle.mcv_cert.specs.Reason.{ReasonValue, never, twin, same, all}
@@ -7,9 +7,10 @@ use Rattle.mcv_certify.specs.PickedReasons.{IsPickedOf}
 use Rattle.mcv_draw.specs.Dot.{dot}
 use Rattle.mcv_draw.specs.Drawn.{DrawingValue, behind, drawn, top}
 use Rattle.mcv_draw.specs.Element.{ElementValue}
-use Rattle.mcv_draw.specs.Marks.{MarksValue, leads_to, marks_by}
+use Rattle.mcv_draw.specs.Marks.{MarksValue, marks_by}
 use Rattle.mcv_draw.specs.Svg.{svg}
 use Rattle.mcv_input.specs.Fault.{AreNamedBy}
+use Rattle.mcv_picture.specs.Reached.{AreReached}
 use Rattle.mcv_route.specs.Routes.{RouteEntry, RoutesValue, within}
 use Rattle.mcv_verdict.specs.Text.{covered_line}
 use Rattle.mcv_verdict.specs.Verdict.{AreCoveredBy, IsLossBy}
@@ -45,18 +46,14 @@ no_marks = marks_by [] [] [] None
 abbrev pub shown_legs : FindingValue → List (List ℕ)
 shown_legs f = map (λ e. e.0) f.deletes ++ map (λ e. e.0) f.gets ++ f.place.leaf ∷ []
 
--- what is at one of the legs or above it is shown, and the server of the leaf is said to be lost
-pub record ShowsLegs (legs : List (List ℕ)) (leaf : List ℕ) (m : MarksValue) : Type 0 where
-  pub shown : (p : List ℕ) → m.shown p ≡ leads_to legs p
-  pub lost : (p : List ℕ) → m.lost p ≡ bytes_eq leaf p
+-- in the tree of its own route: to what its deletes reach deletes go, what its gets reach can be read, the legs that answer are shown, and the leaf's server is lost; in another tree nothing
+abbrev pub ShowsIf : (is_own : Bool) → RoutesValue → FindingValue → MarksValue → Type 0
+ShowsIf true r f m = (deletes : List (List ℕ)) × (readable : List (List ℕ)) × AreReached r f deletes readable × (m ≡ marks_by deletes readable (shown_legs f) (Some f.place.leaf))
+ShowsIf false r f m = m ≡ no_marks
 
-abbrev pub ShowsIf : (is_own : Bool) → FindingValue → MarksValue → Type 0
-ShowsIf true f m = ShowsLegs (shown_legs f) f.place.leaf m
-ShowsIf false f m = m ≡ no_marks
-
--- a finding is shown in the tree of its own route; in others nothing is marked
-abbrev pub ShowsFinding : FindingValue → (number : ℕ) → MarksValue → Type 0
-ShowsFinding f number m = ShowsIf (number == f.place.spot.route) f m
+-- what a finding marks in the tree of the route of a number
+abbrev pub ShowsFinding : RoutesValue → FindingValue → (number : ℕ) → MarksValue → Type 0
+ShowsFinding r f number m = ShowsIf (number == f.place.spot.route) r f m
 
 -- ---- which elements there are
 
@@ -100,7 +97,7 @@ IsDrawnWith P is_dot r said text = (es : List ElementValue) × AreDrawnOf P r es
 abbrev pub IsDrawnOf : (is_dot : Bool) → RoutesValue → Verdict → (text : List ℕ) → Type 0
 IsDrawnOf is_dot r (Covered n) text = (c : CertificateValue) × AreCoveredBy r c × All (IsPickedOf r) c.pairs × (n ≡ length c.pairs)
     × IsDrawnWith (λ number m. m ≡ certificate_marks c number) is_dot r (covered_line n) text
-IsDrawnOf is_dot r Lost text = (f : FindingValue) × IsLossBy r f × IsDrawnWith (ShowsFinding f) is_dot r (finding_text r f) text
+IsDrawnOf is_dot r Lost text = (f : FindingValue) × IsLossBy r f × IsDrawnWith (ShowsFinding r f) is_dot r (finding_text r f) text
 
 -- the input is a configuration, and the text draws its routes within the window
 abbrev pub IsDrawnOn : (is_dot : Bool) → (input : List ℕ) → (window : ℕ) → Verdict → (text : List ℕ) → Type 0

@@ -72,7 +72,7 @@ fn lost_drawing(
     is_dot: bool,
 ) -> Result<Drawn, AllocError>
     ensures verdict { IfOk result (λ drawn. drawn.verdict ≡ Verdict.Lost) }
-    ensures text { IfOk result (λ drawn. IsDrawnWith (ShowsFinding (finding_of finding.now)) is_dot routes.now (finding_text routes.now (finding_of finding.now)) drawn.text.items) }
+    ensures text { IfOk result (λ drawn. IsDrawnWith (ShowsFinding routes.now (finding_of finding.now)) is_dot routes.now (finding_text routes.now (finding_of finding.now)) drawn.text.items) }
 {
     let said = finding_text(alloc, finding, routes)?;
     let found = Found::Lost(finding);
@@ -91,7 +91,7 @@ fn picture_text(
     said: &[u8],
     is_dot: bool,
 ) -> Result<Vec<u8>, AllocError>
-    ensures { IfOk result (λ text. IsDrawnWith (AreMarksOf found.now) is_dot routes.now said.now text.items) }
+    ensures { IfOk result (λ text. IsDrawnWith (AreMarksOf found.now routes.now) is_dot routes.now said.now text.items) }
 {
     let picture = picture_of(alloc, routes, found)?;
     if is_dot {
@@ -103,7 +103,7 @@ fn picture_text(
 
 /// The routes' trees, one below the other, with what was found marked in each.
 fn picture_of(alloc: Global, routes: &Routes, found: &Found<'_>) -> Result<Picture, AllocError>
-    ensures { IfOk result (λ picture. AreDrawnOf (AreMarksOf found.now) routes.now (elements_of picture)) }
+    ensures { IfOk result (λ picture. AreDrawnOf (AreMarksOf found.now routes.now) routes.now (elements_of picture)) }
 {
     // There are fewer routes than a number can count.
     let _servers = routes.servers();
@@ -125,7 +125,7 @@ fn draw_route(
     number: usize,
     route: &Route,
 ) -> Result<(), AllocError>
-    ensures { OnOk result ((m : MarksValue) × AreMarksOf found.now number m
+    ensures { OnOk result ((m : MarksValue) × AreMarksOf found.now routes.now number m
         × (elements_of picture.new ≡ elements_of picture.old ++ drawn (drawing routes.now number m) top (rows_of (elements_of picture.old)) (view route.now))) }
 {
     let marks = marks_of(alloc, routes, found, number)?;

@@ -1,17 +1,21 @@
 //! What a verdict marks in the trees of the routes.
 
-ghost use Rattle.std.specs.Prelude.{◌≡◌, ◌==◌, ◌++◌, ◌∷◌, [], None, IfOk, OnOk, map};
+ghost use Rattle.std.specs.Prelude.{◌≡◌, ◌==◌, ◌++◌, ◌∷◌, [], None, true, IfOk, OnOk, map, option_map};
 ghost use Rattle.std.specs.List.{flat_map};
+ghost use Rattle.mcv_blocks.specs.Blocks.{positions_of};
 ghost use Rattle.mcv_cert.specs.Pair.{pair_of};
 ghost use Rattle.mcv_cert.specs.Reason.{reason_of};
 ghost use Rattle.mcv_draw.specs.Marks.{marks_by, marks_of};
+ghost use Rattle.mcv_judge.specs.PairsInMemory.{legs_of};
+ghost use Rattle.mcv_picture.specs.Drawing.{ShowsFinding, ShowsIf, certificate_marks, no_marks, own_leaf, own_legs, reason_legs, shown_legs};
 ghost use Rattle.mcv_picture.specs.Found.{AreMarksOf};
-ghost use Rattle.mcv_picture.specs.Drawing.{ShowsFinding, ShowsLegs, certificate_marks, no_marks, own_leaf, own_legs, reason_legs, shown_legs};
+ghost use Rattle.mcv_picture.specs.Reached.{AreDeletesTo, AreReadableAt, AreReached};
+ghost use Rattle.mcv_route.specs.View.{view};
 ghost use Rattle.mcv_witness.specs.Finding.{finding_of, outcomes_of};
 
-use mcv_base::Position;
+use mcv_base::{Moment, Position, Rest};
 use mcv_blocks::Sets;
-use mcv_cert::{Certificate, Pair, Place, Reason};
+use mcv_cert::{Certificate, Pair, Reason};
 use mcv_classes::ClassTable;
 use mcv_draw::Marks;
 use mcv_judge::Leg;
@@ -33,7 +37,7 @@ pub(crate) fn marks_of(
     found: &Found<'_>,
     number: usize,
 ) -> Result<Marks, AllocError>
-    ensures { IfOk result (λ marks. AreMarksOf found.now number (marks_of marks)) }
+    ensures { IfOk result (λ marks. AreMarksOf found.now routes.now number (marks_of marks)) }
 {
     match *found {
         Found::Covered(certificate) => certified(alloc, certificate, number),
@@ -143,7 +147,7 @@ fn lost(
     finding: &Finding,
     number: usize,
 ) -> Result<Marks, AllocError>
-    ensures { IfOk result (λ marks. ShowsFinding (finding_of finding.now) number (marks_of marks)) }
+    ensures { IfOk result (λ marks. ShowsFinding routes.now (finding_of finding.now) number (marks_of marks)) }
 {
     if is_route_of(finding, number) {
         return found_marks(alloc, routes, finding);
@@ -161,7 +165,7 @@ fn is_route_of(finding: &Finding, number: usize) -> bool
 /// What a finding marks in the tree of its route: the legs that answer, the leaf whose server is lost, and what deletes
 /// and gets of its keys reach.
 fn found_marks(alloc: Global, routes: &Routes, finding: &Finding) -> Result<Marks, AllocError>
-    ensures { IfOk result (λ marks. ShowsLegs (shown_legs (finding_of finding.now)) finding.now.place.leaf (marks_of marks)) }
+    ensures { IfOk result (λ marks. ShowsIf true routes.now (finding_of finding.now) (marks_of marks)) }
 {
     let shown = shown_legs(alloc, finding)?;
     let leaf = finding.place.leaf.copy(alloc)?;
@@ -220,42 +224,64 @@ struct Reached {
 }
 
 /// For the finding's keys and its eras, the legs that each delete that has a reply has sent, beside those that answered,
-/// and the leaves that can be read.
-fn reach(alloc: Global, routes: &Routes, finding: &Finding) -> Result<Reached, AllocError> {
-    let mut deletes = Vec::new(alloc);
-    let mut readable = Vec::new(alloc);
-    push_answered(alloc, &mut deletes, finding.deletes.as_slice())?;
-    if let Some(route) = routes.route(finding.place.route) {
-        push_reached(
-            alloc,
-            &mut deletes,
-            &mut readable,
-            routes,
-            route,
-            &finding.place,
-        )?;
-    }
+/// and the leaves that can be read. (Routes have a finding's route, and its class a member: else nothing is reached.)
+fn reach(alloc: Global, routes: &Routes, finding: &Finding) -> Result<Reached, AllocError>
+    ensures { IfOk result (λ reached. AreReached routes.now (finding_of finding.now) reached.deletes.items reached.readable.items) }
+{
+    let place = &finding.place;
+    let Some(route) = routes.route(place.route) else {
+        return Ok(nothing_reached(alloc));
+    };
+    let table = ClassTable::new(alloc, route)?;
+    let Some(member) = table.member_of(place.class.as_slice()) else {
+        return Ok(nothing_reached(alloc));
+    };
+    let since = opened(routes, place.era);
+    let deletes = deletes_to(alloc, route, &member, since, finding)?;
+    let since_read = opened(routes, place.get_era);
+    let readable = readable_at(alloc, route, &member, since_read)?;
     Ok(Reached { deletes, readable })
 }
 
-fn push_reached(
+fn nothing_reached(alloc: Global) -> Reached {
+    Reached {
+        deletes: Vec::new(alloc),
+        readable: Vec::new(alloc),
+    }
+}
+
+/// The legs that answered a finding's delete, and those that each delete of a rest that has a reply has sent in an era.
+fn deletes_to(
     alloc: Global,
-    deletes: &mut Vec<Position>,
-    readable: &mut Vec<Position>,
-    routes: &Routes,
     route: &Route,
-    place: &Place,
-) -> Result<(), AllocError> {
-    let table = ClassTable::new(alloc, route)?;
-    let Some(member) = table.member_of(place.class.as_slice()) else {
-        return Ok(());
-    };
-    let deleting = Sets::new(alloc, route, &member, opened(routes, place.era))?;
-    let sent = deleting.acknowledged(alloc)?;
-    push_legs_of(alloc, deletes, sent.as_slice())?;
-    let reading = Sets::new(alloc, route, &member, opened(routes, place.get_era))?;
-    let leaves = reading.readable(alloc)?;
-    push_legs_of(alloc, readable, leaves.as_slice())
+    rest: &Rest,
+    since: Option<Moment>,
+    finding: &Finding,
+) -> Result<Vec<Position>, AllocError>
+    ensures { IfOk result (λ positions. AreDeletesTo (view route.now) rest.now (option_map (λ m. m.0) since) (finding_of finding.now) positions.items) }
+{
+    let mut positions = Vec::new(alloc);
+    push_answered(alloc, &mut positions, finding.deletes.as_slice())?;
+    let sets = Sets::new(alloc, route, rest, since)?;
+    let legs = sets.acknowledged(alloc)?;
+    push_legs_of(alloc, &mut positions, legs.as_slice())?;
+    Ok(positions)
+}
+
+/// The leaves from which a get, gets, incr or decr of a rest can be answered in an era.
+fn readable_at(
+    alloc: Global,
+    route: &Route,
+    rest: &Rest,
+    since: Option<Moment>,
+) -> Result<Vec<Position>, AllocError>
+    ensures { IfOk result (λ positions. AreReadableAt (view route.now) rest.now (option_map (λ m. m.0) since) positions.items) }
+{
+    let mut positions = Vec::new(alloc);
+    let sets = Sets::new(alloc, route, rest, since)?;
+    let legs = sets.readable(alloc)?;
+    push_legs_of(alloc, &mut positions, legs.as_slice())?;
+    Ok(positions)
 }
 
 /// Adds the positions of legs.
@@ -263,7 +289,9 @@ fn push_legs_of(
     alloc: Global,
     positions: &mut Vec<Position>,
     legs: &[Leg<'_>],
-) -> Result<(), AllocError> {
+) -> Result<(), AllocError>
+    ensures { OnOk result (positions.new.items ≡ positions.old.items ++ positions_of (legs_of legs.entry.now)) }
+{
     for leg in legs {
         push_leg(alloc, positions, leg.position)?;
     }

@@ -1,5 +1,5 @@
 -- What is said of the first bytes of an input is said of all of it.
-use Rattle.std.proofs.Common.{◌≡◌, ◌≢◌, ◌∙◌, ◌⊎◌, inl, inr, ◌<◌, ◌≤◌, ℕ, List, Option, Some, arith, length, take, subst, sym}
+use Rattle.std.proofs.Common.{◌≡◌, ◌≢◌, ◌∙◌, ◌⊎◌, inl, inr, ◌<◌, ◌≤◌, ℕ, List, Option, Some, None, IfSome, arith, length, take, subst, sym}
 use Rattle.mcv_config.specs.Config.{Faulty, size_limit}
 use Rattle.mcv_input.proofs.FirstBytes.{fault_of_known, named_by_all, read_limit, whole}
 use Rattle.mcv_input.specs.Fault.{AreNamedBy, IsInputFault, IsOutside, of_reading}
@@ -41,6 +41,13 @@ reported_whole window first bytes certificate verdict text is on =
     let short : length first ≤ size_limit = on.1.1.0 in
     let cut : length (take read_limit bytes) < read_limit = subst (λ (xs : List ℕ). length xs < read_limit) is (omega arith) in
     subst (λ (xs : List ℕ). IsReportedOn xs window certificate verdict text) (is ∙ whole read_limit bytes cut) on
+
+-- .. where it is known which the input is
+pub reported_known : (known : Option (List ℕ)) (window : ℕ) (first : List ℕ) (certificate : Option (List ℕ)) (verdict : Verdict) (text : List ℕ)
+    → IfSome known (λ bytes. first ≡ take read_limit bytes) → IsReportedOn first window certificate verdict text
+    → IfSome known (λ input. IsReportedOn input window certificate verdict text)
+reported_known None window first certificate verdict text read on = tt
+reported_known (Some bytes) window first certificate verdict text read on = reported_whole window first bytes certificate verdict text read on
 
 named_whole : (first bytes : List ℕ) (r : RoutesValue) → first ≡ take read_limit bytes → AreNamedBy first r → AreNamedBy bytes r
 named_whole first bytes r is named = named_by_all bytes r (subst (λ (xs : List ℕ). AreNamedBy xs r) is named)

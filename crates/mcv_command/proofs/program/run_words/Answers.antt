@@ -60,12 +60,12 @@ returns-in-Ok-Check-None-default-clause-stop g c =
 pub returns-in-Ok-Check-None-default-clause-silent : goal.returns-in-Ok-Check-None-default-clause-silent
 returns-in-Ok-Check-None-default-clause-silent g c =
     let asks = rw (c.in-Ok-Check-None-default.field-0-is, c.in-Ok-Check-None-default.field-0-0-is) at c.in-Ok-Check-None-default.ensures.job in
-    silent_unless_json c.in-Ok-Check-None-default.options.json c.judge.result _ (λ json. (None, c.in-Ok-Check-None-default.options, asks, json)) c.judge.ensures.silent
+    silent_unless_json (map (λ w. w.now) c.args.words.now) c.in-Ok-Check-None-default.options.json c.judge.result _ (λ json. (None, c.in-Ok-Check-None-default.options, asks, json)) c.judge.ensures.silent
 
 pub returns-in-Ok-Check-Some-default-clause-silent : goal.returns-in-Ok-Check-Some-default-clause-silent
 returns-in-Ok-Check-Some-default-clause-silent g c =
     let asks = rw (c.in-Ok-Check-Some-default.field-0-is, c.in-Ok-Check-Some-default.field-0-0-is) at c.in-Ok-Check-Some-default.ensures.job in
-    silent_unless_json c.in-Ok-Check-Some-default.options.json c.judge_by.result _ (λ json. (Some c.in-Ok-Check-Some-default.name.now, c.in-Ok-Check-Some-default.options, asks, json)) c.judge_by.ensures.silent
+    silent_unless_json (map (λ w. w.now) c.args.words.now) c.in-Ok-Check-Some-default.options.json c.judge_by.result _ (λ json. (Some c.in-Ok-Check-Some-default.name.now, c.in-Ok-Check-Some-default.options, asks, json)) c.judge_by.ensures.silent
 
 pub returns-in-Ok-Draw-clause-done : goal.returns-in-Ok-Draw-clause-done
 returns-in-Ok-Draw-clause-done g c =
@@ -193,8 +193,9 @@ returns-in-Ok-Run-clause-listed g c = λ slot is.
 
 pub returns-in_err-run_legs-in-Ok-Legs-clause-reported : goal.returns-in_err-run_legs-in-Ok-Legs-clause-reported
 returns-in_err-run_legs-in-Ok-Legs-clause-reported g c = λ gives.
+    let words : List Text = map (λ w. w.now) c.args.words.now in
     let asks = rw c.in-Ok-Legs.field-0-is at c.in-Ok-Legs.ensures.job in
-    absurd (json_of_check _ (codes "legs") asks.1 gives asks.2 refl)
+    absurd (json_of_check words (codes "legs") asks.1 gives asks.2 refl)
 
 pub returns-in_err-write_text-in-Err-Help-clause-reported : goal.returns-in_err-write_text-in-Err-Help-clause-reported
 returns-in_err-write_text-in-Err-Help-clause-reported g c =
@@ -211,30 +212,36 @@ returns-in-Err-Memory-clause-reported g c = λ gives no_memory no_device. absurd
 
 pub returns-in-Ok-Check-None-default-clause-reported : goal.returns-in-Ok-Check-None-default-clause-reported
 returns-in-Ok-Check-None-default-clause-reported g c = λ gives.
+    let words : List Text = map (λ w. w.now) c.args.words.now in
     let asks = rw (c.in-Ok-Check-None-default.field-0-is, c.in-Ok-Check-None-default.field-0-0-is) at c.in-Ok-Check-None-default.ensures.job in
-    c.judge.ensures.reported (json_asked _ None c.in-Ok-Check-None-default.options asks gives)
+    c.judge.ensures.reported (json_asked words None c.in-Ok-Check-None-default.options asks gives)
 
 pub returns-in-Ok-Check-Some-default-clause-reported : goal.returns-in-Ok-Check-Some-default-clause-reported
 returns-in-Ok-Check-Some-default-clause-reported g c = λ gives.
+    let words : List Text = map (λ w. w.now) c.args.words.now in
     let asks = rw (c.in-Ok-Check-Some-default.field-0-is, c.in-Ok-Check-Some-default.field-0-0-is) at c.in-Ok-Check-Some-default.ensures.job in
-    c.judge_by.ensures.reported (json_asked _ (Some c.in-Ok-Check-Some-default.name.now) c.in-Ok-Check-Some-default.options asks gives)
+    c.judge_by.ensures.reported (json_asked words (Some c.in-Ok-Check-Some-default.name.now) c.in-Ok-Check-Some-default.options asks gives)
 
 pub returns-in-Ok-Draw-clause-reported : goal.returns-in-Ok-Draw-clause-reported
 returns-in-Ok-Draw-clause-reported g c = λ gives.
+    let words : List Text = map (λ w. w.now) c.args.words.now in
     let asks = rw c.in-Ok-Draw.field-0-is at c.in-Ok-Draw.ensures.job in
-    absurd (json_of_check _ (codes "draw") asks.1 gives asks.2 refl)
+    absurd (json_of_check words (codes "draw") asks.1 gives asks.2 refl)
 
 pub returns-in-Ok-Mend-clause-reported : goal.returns-in-Ok-Mend-clause-reported
 returns-in-Ok-Mend-clause-reported g c = λ gives.
+    let words : List Text = map (λ w. w.now) c.args.words.now in
     let asks = rw c.in-Ok-Mend.field-0-is at c.in-Ok-Mend.ensures.job in
-    absurd (json_of_check _ (codes "mend") asks.1 gives asks.2 refl)
+    absurd (json_of_check words (codes "mend") asks.1 gives asks.2 refl)
 
 pub returns-in-Ok-Run-clause-reported : goal.returns-in-Ok-Run-clause-reported
 returns-in-Ok-Run-clause-reported g c = λ gives.
+    let words : List Text = map (λ w. w.now) c.args.words.now in
     let asks = rw c.in-Ok-Run.field-0-is at c.in-Ok-Run.ensures.job in
-    absurd (json_of_check _ (codes "run") asks.1 gives asks.2 refl)
+    absurd (json_of_check words (codes "run") asks.1 gives asks.2 refl)
 
 pub returns-in-Ok-Spool-clause-reported : goal.returns-in-Ok-Spool-clause-reported
 returns-in-Ok-Spool-clause-reported g c = λ gives.
+    let words : List Text = map (λ w. w.now) c.args.words.now in
     let asks = rw c.in-Ok-Spool.field-0-is at c.in-Ok-Spool.ensures.job in
-    absurd (json_of_check _ (codes "spool") asks.1 gives asks.2 refl)
+    absurd (json_of_check words (codes "spool") asks.1 gives asks.2 refl)

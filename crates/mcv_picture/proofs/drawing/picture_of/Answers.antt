@@ -9,15 +9,15 @@ use Rattle.mcv_picture.proofs.drawing.picture_of.Goals as goal
 pub overflow_add-number : goal.overflow_add-number
 overflow_add-number c =
     let within = number_within c.args.routes.now c.loop-route.number (view c.in-Some.route.now) c.in-Some.ensures in
-    let few = few_routes c.args.routes.now c.servers-_servers.ensures.limits in
+    let few = few_routes c.args.routes.now c.servers-servers.ensures.limits in
     omega (arith, within, few)
 
 pub loop-route-init : goal.loop-route-init
-loop-route-init c = none_drawn (AreMarksOf c.args.found.now) c.args.routes.now (elements_of c.new-picture.result) c.new-picture.ensures
+loop-route-init c = none_drawn (AreMarksOf c.args.found.now c.args.routes.now) c.args.routes.now (elements_of c.new-picture.result) c.new-picture.ensures
 
 pub loop-route-preserved : goal.loop-route-preserved
 loop-route-preserved c =
-    one_drawn (AreMarksOf c.args.found.now) c.args.routes.now c.loop-route.number (view c.in-Some.route.now) (elements_of c.loop-route.picture) (elements_of c.draw_route.new.picture) c.in-Some.ensures
+    one_drawn (AreMarksOf c.args.found.now c.args.routes.now) c.args.routes.now c.loop-route.number (view c.in-Some.route.now) (elements_of c.loop-route.picture) (elements_of c.draw_route.new.picture) c.in-Some.ensures
     c.in_ok-draw_route.ensures c.loop-route.invariant
 
 pub loop-route-smaller : goal.loop-route-smaller
@@ -26,4 +26,4 @@ loop-route-smaller c =
     omega (arith, within)
 
 pub returns : goal.returns
-returns c = all_drawn (AreMarksOf c.args.found.now) c.args.routes.now c.loop-route.number (elements_of c.loop-route.picture) (rw c.in_default.is at c.route.ensures) c.loop-route.invariant
+returns c = all_drawn (AreMarksOf c.args.found.now c.args.routes.now) c.args.routes.now c.loop-route.number (elements_of c.loop-route.picture) (rw c.in_default.is at c.route.ensures) c.loop-route.invariant

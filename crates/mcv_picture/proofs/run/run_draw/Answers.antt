@@ -1,11 +1,10 @@
-use Rattle.std.proofs.Common.{List, ℕ, None, IfSome, sym, subst}
+use Rattle.std.proofs.Common.{None, IfSome, sym, subst}
 use Rattle.std.proofs.lemmas.Option.{IfSome_then}
 use Rattle.std.proofs.lemmas.Result.{err_from_is_err_and}
 use Rattle.mcv_input.specs.declared.fault.RunFault.{RunFault}
-use Rattle.mcv_route.specs.Routes.{RoutesValue}
 use Rattle.mcv_verdict.specs.Fault.{IsRunFault}
 use Rattle.mcv_verdict.proofs.PartFaults.{input_fault_so, refused_for}
-use Rattle.mcv_picture.specs.Drawing.{IsDrawnOf}
+use Rattle.mcv_picture.proofs.Verdicts.{drawn_known}
 use Rattle.mcv_picture.proofs.run.run_draw.Goals as goal
 
 pub returns-in_err-routes-clause-fault : goal.returns-in_err-routes-clause-fault
@@ -28,10 +27,7 @@ pub returns-clause-ok : goal.returns-clause-ok
 returns-clause-ok g c =
     let drawn = c.in_ok-drawn.drawn in (
       c.as_slice.result.now,
-      IfSome_then (g.R.Read.remaining c.args.reader.now) c.in_ok-routes.ensures.named (λ input named. (
-        c.in_ok-routes.routes,
-        named,
-        subst (λ (r : RoutesValue). IsDrawnOf c.args.is_dot r drawn.verdict c.as_slice.result.now) c.within.ensures (subst (λ (text : List ℕ). IsDrawnOf c.args.is_dot c.within.result drawn.verdict text) (sym c.as_slice.ensures.value) c.in_ok-drawn.ensures.drawn),
-      )),
+      drawn_known (g.R.Read.remaining c.args.reader.now) c.args.is_dot c.args.window c.in_ok-routes.routes c.within.result drawn.verdict drawn.text.items c.as_slice.result.now c.in_ok-routes.ensures.named
+          c.within.ensures c.in_ok-drawn.ensures.drawn c.as_slice.ensures.value,
       c.in_ok-write_text.ensures.written,
     )

@@ -1,4 +1,3 @@
-use Rattle.std.proofs.Common.{refl}
 use Rattle.mcv_show.proofs.fault.fault_text.Goals as goal
 
 pub returns-in-Config : goal.returns-in-Config

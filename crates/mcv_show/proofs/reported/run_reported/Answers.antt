@@ -5,7 +5,7 @@ use Rattle.mcv_input.proofs.FirstBytes.{outside_of_any, read_limit}
 use Rattle.mcv_input.specs.Fault.{IsOutside}
 use Rattle.mcv_input.specs.declared.fault.RunFault.{RunFault}
 use Rattle.mcv_show.specs.Reported.{IsFaultText}
-use Rattle.mcv_show.proofs.WholeInput.{not_outside, reported_whole, run_fault_whole}
+use Rattle.mcv_show.proofs.WholeInput.{not_outside, reported_known, run_fault_whole}
 use Rattle.mcv_verdict.specs.Fault.{IsRunFault}
 use Rattle.mcv_show.proofs.reported.run_reported.Goals as goal
 
@@ -31,7 +31,7 @@ returns-clause-ok g c =
     let first = c.as_slice.result.now in
     let read : IfSome known (λ bytes. first ≡ take read_limit bytes) = subst (λ (xs : List ℕ). IfSome known (λ bytes. xs ≡ take read_limit bytes)) (sym c.as_slice.ensures.value) c.in_ok-input.ensures.read in
     IfOk-weaker c.write_reported.result _ _
-    (λ verdict shown. (shown.0, IfSome_then known read (λ bytes is. reported_whole c.args.window first bytes given verdict shown.0 is shown.1), shown.2)) c.write_reported.ensures.ok
+    (λ verdict shown. (shown.0, reported_known known c.args.window first given verdict shown.0 read shown.1, shown.2)) c.write_reported.ensures.ok
 
 pub returns-clause-fault : goal.returns-clause-fault
 returns-clause-fault g c =
