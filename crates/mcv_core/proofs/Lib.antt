@@ -8,6 +8,7 @@ pub mod SpooledLegs
 pub mod States
 pub mod SpoolNumbers
 pub mod Settlements
+pub mod FlightsStayWithin
 pub mod LegViews
 pub mod SettledLegs
 pub mod LegEventsAreMoves

@@ -6,7 +6,7 @@ ghost use Rattle.mcv_base.specs.Reply.{part_value};
 ghost use Rattle.mcv_queues.specs.Legs.{is_flight, is_in_flight};
 ghost use Rattle.mcv_queues.specs.Queues.{legs};
 ghost use Rattle.mcv_core.specs.CoreView.{HasDone, at_row, finished, held, landing_at, replayed_in, sent_in};
-ghost use Rattle.mcv_core.specs.Events.{IsAnsweredLeg, IsEvent, IsLostLeg};
+ghost use Rattle.mcv_core.specs.Events.{IsAnsweredLeg, IsEvent, IsLostLeg, IsLostTooLeg};
 ghost use Rattle.mcv_core.specs.Facts.{counts_in, facts_of as facts_seen, state_in};
 ghost use Rattle.mcv_core.specs.View.{core_view};
 ghost use Rattle.mcv_core.specs.declared.step.LegState.TheVariants as leg_states;
@@ -21,7 +21,7 @@ use mcv_base::{LegId, Op, Parts};
 use mcv_queues::State;
 
 impl Dispatcher {
-    /// A leg in flight was answered.
+    /// A leg in flight was answered: any of those that are, in whatever order they were sent.
     pub fn answered(&mut self, leg: LegId, parts: Parts) -> Result<Step, CoreFault>
         ensures { IsEvent (IsAnsweredLeg (core_view self.old) leg parts result) (core_view self.new) }
     {
@@ -35,7 +35,7 @@ impl Dispatcher {
         }
     }
 
-    /// A leg in flight was lost.
+    /// A leg in flight was lost, and its server has one failure more.
     pub fn lost(&mut self, leg: LegId) -> Result<Step, CoreFault>
         ensures { IsEvent (IsLostLeg (core_view self.old) leg result) (core_view self.new) }
     {
@@ -45,6 +45,17 @@ impl Dispatcher {
                 self.marks.lost(facts.server);
                 Ok(self.land(leg, facts, counted))
             }
+            Err(fault) => Err(fault),
+        }
+    }
+
+    /// A leg in flight was lost too, with the connection of which another leg's loss has told: its server has no failure
+    /// more. The connection's oldest leg is `lost`, and each other one of it `lost_too`.
+    pub fn lost_too(&mut self, leg: LegId) -> Result<Step, CoreFault>
+        ensures { IsEvent (IsLostTooLeg (core_view self.old) leg result) (core_view self.new) }
+    {
+        match self.flying(leg) {
+            Ok(facts) => Ok(self.land(leg, facts, Counted::lost())),
             Err(fault) => Err(fault),
         }
     }
