@@ -142,14 +142,13 @@ module _ (d : Dispatcher) (n : ℕ) (l : Leg Errand) (at : legs d.queues n ≡ S
       ∙ sym (at_its_row (λ z. landing_in (with_mark (core_view d) (launch_of l.content).server.0 answered_mark) n (counted_as (launch_of l.content).op x) z z.state)) in
       subst (λ e. HasEffect e (core_view d) new (Ok step)) (sym same) (effect_of (landing_at (with_mark (core_view d) (launch_of l.content).server.0 answered_mark) n (counted_as (launch_of l.content).op x)) (core_view d) new step here)
 
-  pub loss_effect : is_flight l.state ≡ true → (y : ReplyValue) → y ≡ fixed_value Lost → (mid new : CoreView) (step : Step) → mid ≡ with_mark (core_view d) (launch_of l.content).server.0 lost_mark
-      → HasDone (landing_at mid n y) new step → HasEffect (loss_at (core_view d) n) (core_view d) new (Ok step)
-  loss_effect f y y_is mid new step mid_is h =
-      let here : HasDone (landing_at (with_mark (core_view d) (launch_of l.content).server.0 lost_mark) n (fixed_value Lost)) new step =
-      subst (λ u. HasDone (landing_at u n (fixed_value Lost)) new step) mid_is (subst (λ z. HasDone (landing_at mid n z) new step) y_is h) in
-      let same : loss_at (core_view d) n ≡ landing_at (with_mark (core_view d) (launch_of l.content).server.0 lost_mark) n (fixed_value Lost) =
+  pub loss_effect : is_flight l.state ≡ true → (mid new : CoreView) (step : Step) → mid ≡ with_mark (core_view d) (launch_of l.content).server.0 lost_mark → HasDone (lost_too_at mid n) new step
+      → HasEffect (loss_at (core_view d) n) (core_view d) new (Ok step)
+  loss_effect f mid new step mid_is h =
+      let here : HasDone (lost_too_at (with_mark (core_view d) (launch_of l.content).server.0 lost_mark) n) new step = subst (λ u. HasDone (lost_too_at u n) new step) mid_is h in
+      let same : loss_at (core_view d) n ≡ lost_too_at (with_mark (core_view d) (launch_of l.content).server.0 lost_mark) n =
       at_its_row (λ z. loss_in (core_view d) n z z.state) ∙ loses_as l.state refl f ∙ sym (at_its_row (λ z. landing_in (with_mark (core_view d) (launch_of l.content).server.0 lost_mark) n (fixed_value Lost) z z.state)) in
-      subst (λ e. HasEffect e (core_view d) new (Ok step)) (sym same) (effect_of (landing_at (with_mark (core_view d) (launch_of l.content).server.0 lost_mark) n (fixed_value Lost)) (core_view d) new step here)
+      subst (λ e. HasEffect e (core_view d) new (Ok step)) (sym same) (effect_of (lost_too_at (with_mark (core_view d) (launch_of l.content).server.0 lost_mark) n) (core_view d) new step here)
 
   -- ---- a leg that isn't in flight
 
@@ -254,10 +253,6 @@ loss_refused d n fault f is = refusal (loss_at (core_view d) n) (core_view d) fa
     by_leg : (o : Option (Leg Errand)) → legs d.queues n ≡ o → is_in_flight o ≡ false → loss_at (core_view d) n ≡ refuses NoSuchLeg
     by_leg None at g = ap (at_row (λ z. loss_in (core_view d) n z z.state)) (ap (option_map (row_by state_of)) at)
     by_leg (Some l) at g = at_its_row d n l at (λ z. loss_in (core_view d) n z z.state) ∙ loss_grounded d n l at l.state refl g
-
--- a leg in flight was lost with another leg's connection
-pub lost_too_effect : (d : Dispatcher) (n : ℕ) (y : ReplyValue) → y ≡ fixed_value Lost → (new : CoreView) (step : Step) → HasDone (landing_at (core_view d) n y) new step → HasEffect (lost_too_at (core_view d) n) (core_view d) new (Ok step)
-lost_too_effect d n y y_is new step h = effect_of (landing_at (core_view d) n (fixed_value Lost)) (core_view d) new step (subst (λ z. HasDone (landing_at (core_view d) n z) new step) y_is h)
 
 pub lost_too_refused : (d : Dispatcher) (n : ℕ) (fault : CoreFault) → is_in_flight (legs d.queues n) ≡ false → fault ≡ NoSuchLeg → HasEffect (lost_too_at (core_view d) n) (core_view d) (core_view d) (Err fault)
 lost_too_refused d n fault f is = refusal (lost_too_at (core_view d) n) (core_view d) fault (by_leg (legs d.queues n) refl f) is
