@@ -6,6 +6,7 @@
 ghost use Rattle.std.specs.Prelude.{◌≡◌, ◌<◌, ◌≤◌, ◌+◌, ◌-◌, ◌^◌, ℕ, true, false, None, Some, OnOk, OnErr, IfOk, IfErr, IfSome, option_map, option_copied, nat_eq, cond};
 ghost use Rattle.mcv_queues.specs.Numbers.{put, IsLeast, leg_number};
 ghost use Rattle.mcv_queues.specs.Legs.{IsSentTo, is_in_flight, is_in_flight_to, is_flight, rests_at, with_state, with_stored, with_content, leg_content};
+ghost use Rattle.mcv_queues.specs.Flights.{AreFlying};
 ghost use Rattle.mcv_queues.specs.Groups.{IsFirstHeld, is_in};
 ghost use Rattle.mcv_queues.specs.declared.roots.Group.TheVariants.{WaitingFor, SpooledFor, HeldLegs, RefusedLegs, LegsInReplay};
 ghost use Rattle.mcv_queues.specs.Queues.{legs, room, in_flight, servers};
@@ -280,7 +281,8 @@ impl<T: Drop> Queues<T> {
 
     /// How many legs are in flight to a server, sent or in replay.
     pub fn in_flight(&self, server: ServerId) -> usize
-        ensures { result ≡ in_flight self.now server.0 }
+        ensures flights { result ≡ in_flight self.now server.0 }
+        ensures counted { ∥ AreFlying (legs self.now) server.0 result ∥₁ }
     {
         self.roots.server(server.0 as usize).flying
     }
