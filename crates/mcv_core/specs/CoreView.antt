@@ -1,5 +1,5 @@
 -- What contracts see of a core, and what its events do to that: the rules of the core (own).
-use Rattle.std.specs.Prelude.{◌≡◌, ◌<◌, ◌≤◌, ◌+◌, ◌-◌, ℕ, ◌&&◌, not, Bool, true, false, List, Option, Some, None, Result, Ok, Err, cond, length, nat_eq, option_map, slice_get}
+use Rattle.std.specs.Prelude.{◌≡◌, ◌<◌, ◌≤◌, ℕ, ◌&&◌, not, Bool, true, false, List, Option, Some, None, Result, Ok, Err, cond, length, nat_eq, option_map, slice_get}
 use Rattle.std.specs.Str.{bytes_eq}
 use Rattle.mcv_base.specs.declared.reply.FixedReply.TheVariants.{Lost}
 use Rattle.mcv_base.specs.Operation.{is_delete}

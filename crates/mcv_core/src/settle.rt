@@ -1,6 +1,6 @@
 //! A leg leaves its state, and its call records a reply of it.
 
-ghost use Rattle.std.specs.Prelude.{◌≡◌, ◌≤◌, ◌+◌, ◌-◌, ◌^◌, ◌<◌, ◌&&◌, ℕ, None, cond, option_map, true};
+ghost use Rattle.std.specs.Prelude.{◌≡◌, ◌≤◌, ◌+◌, ◌-◌, ◌^◌, ◌<◌, ◌&&◌, ℕ, cond, option_map, true};
 ghost use Rattle.mcv_base.specs.Reply.{part_value};
 ghost use Rattle.mcv_queues.specs.Legs.{IsSentTo, is_in_flight, is_in_flight_to};
 ghost use Rattle.mcv_queues.specs.Queues.{in_flight, legs, room, servers as known};

@@ -12,6 +12,9 @@ use Rattle.mcv_base.specs.declared.reply.FixedReply.TheVariants.{Lost}
 use Rattle.mcv_base.specs.Reply.{fixed_value}
 use Rattle.mcv_core.proofs.dispatcher.Dispatcher.lost.Goals as goal
 
+pub lose-requires : goal.lose-requires
+lose-requires c = record { at = c.in-Ok.ensures.at; flies = c.in-Ok.ensures.flies }
+
 pub returns-in-Ok : goal.returns-in-Ok
 returns-in-Ok c =
     let d = c.args.self.now in

@@ -7,6 +7,9 @@ use Rattle.mcv_core.proofs.LegEventsAreMoves
 use Rattle.mcv_core.proofs.Landings
 use Rattle.mcv_core.proofs.dispatcher.Dispatcher.lost_too.Goals as goal
 
+pub lose-requires : goal.lose-requires
+lose-requires c = record { at = c.in-Ok.ensures.at; flies = c.in-Ok.ensures.flies }
+
 pub returns-in-Ok : goal.returns-in-Ok
 returns-in-Ok c =
     let d = c.args.self.now in
