@@ -1,4 +1,4 @@
-use Rattle.std.proofs.Common.{◌≡◌, ◌≤◌, ◌+◌, ℕ, None, length, take}
+use Rattle.std.proofs.Common.{◌≡◌, ◌≤◌, ◌+◌, ℕ, length, take}
 use Rattle.mcv_queues.specs.Queues.{in_flight, legs}
 use Rattle.mcv_queues.specs.Queues.{room as leg_room}
 use Rattle.mcv_queues.specs.Queues.{servers as known}
