@@ -1,0 +1,47 @@
+//! Legs in flight that were answered or lost.
+
+ghost use Rattle.std.specs.Prelude.{◌≡◌};
+ghost use Rattle.mcv_turn.specs.Steps.{IsLoss, IsReported};
+
+use crate::arrival::Arrival;
+use mcv_base::{CallId, LegId, ServerId};
+use mcv_core::{CoreFault, Dispatcher, Step};
+use mcv_hub::{Guard, HubLedger};
+use std::sync::ledger::Ledger;
+
+/// The call of a leg, while it is there.
+pub(crate) fn call_of(core: &Dispatcher, leg: LegId) -> Option<CallId> {
+    core.leg(leg)?.call
+}
+
+/// A leg in flight was lost, and its server is marked where it has failed too often.
+pub(crate) fn lose<B: HubLedger, T: Ledger>(
+    guard: &mut Guard<'_, B, T>,
+    server: ServerId,
+    leg: LegId,
+) -> Result<Step, CoreFault>
+    ensures { IsLoss server leg guard.old guard.new result }
+{
+    match guard.lost(leg) {
+        Ok(step) => {
+            guard.mark(server);
+            Ok(step)
+        }
+        Err(fault) => Err(fault),
+    }
+}
+
+/// What became of a leg in flight is reported.
+pub(crate) fn report<B: HubLedger, T: Ledger>(guard: &mut Guard<'_, B, T>, arrival: Arrival)
+    ensures { IsReported arrival.server arrival.leg arrival.reply guard.old guard.new }
+{
+    let Arrival { server, leg, reply } = arrival;
+    match reply {
+        Some(reply) => {
+            let _ = guard.answered(leg, reply);
+        }
+        None => {
+            let _ = lose(guard, server, leg);
+        }
+    }
+}
