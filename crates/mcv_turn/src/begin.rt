@@ -1,11 +1,12 @@
 //! Calls begin for the keys of a request.
 
-ghost use Rattle.std.specs.Prelude.{◌≡◌, ◌+◌, ◌≤◌, IfErr, IfOk, OnErr, OnOk, vec_capacity, vec_len};
+ghost use Rattle.std.specs.Prelude.{◌≡◌, ◌+◌, ◌≤◌, ◌++◌, [], List, IfErr, IfOk, OnErr, OnOk, vec_capacity, vec_len};
 ghost use Rattle.std.specs.Arc.{arc_value};
 ghost use Rattle.mcv_text.specs.Request.{request_value};
 ghost use Rattle.mcv_hub.specs.Gate.{IsHubBegun};
 ghost use Rattle.mcv_turn.specs.Answers.{AreBegun, WasBegun, WasRefused};
-ghost use Rattle.mcv_turn.specs.Runs.{Begins, Runs};
+ghost use Rattle.mcv_turn.specs.Runs.{Runs};
+ghost use Rattle.mcv_turn.specs.Steps.{Begins};
 
 use mcv_base::{CallId, Request};
 use mcv_core::CoreFault;

@@ -2,7 +2,7 @@
 
 ghost use Rattle.mcv_turn.specs.Flights.{IsHeldLeg, MayBeSent};
 
-use mcv_base::{LegId, LegRequest, ServerId};
+use mcv_base::{CallId, LegId, LegRequest, ServerId};
 use mcv_spool::SpoolRecord;
 
 /// A leg in flight that is to be sent.
@@ -19,8 +19,8 @@ pub struct Flight {
 pub(crate) enum Departure {
     /// It is to be sent.
     Sent(Flight),
-    /// It was lost at once: its server was marked, or there was no memory for its request.
-    Lost(LegId),
+    /// It was lost at once: its server was marked, or there was no memory for its request. Its call was this.
+    Lost { leg: LegId, call: Option<CallId> },
 }
 
 /// The leg that the spool is to take next, and its record.

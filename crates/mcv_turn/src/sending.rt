@@ -9,7 +9,7 @@ ghost use Rattle.mcv_turn.specs.Flights.{CameInFlight, is_marked};
 ghost use Rattle.mcv_turn.specs.Steps.{IsDeparture};
 
 use crate::flight::{Departure, Flight};
-use crate::landing::lose;
+use crate::landing::{call_of, lose};
 use mcv_base::{LegId, LegRequest, ServerId};
 use mcv_core::{CoreFault, Dispatcher};
 use mcv_hub::{Guard, HubLedger};
@@ -67,8 +67,9 @@ pub(crate) fn take_next<B: HubLedger, T: Ledger>(
     match flight_of(alloc, guard, server, leg) {
         Some(flight) => Ok(Departure::Sent(flight)),
         None => {
+            let call = call_of(guard.core(), leg);
             let _ = lose(guard, server, leg);
-            Ok(Departure::Lost(leg))
+            Ok(Departure::Lost { leg, call })
         }
     }
 }

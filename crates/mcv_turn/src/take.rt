@@ -1,6 +1,6 @@
 //! Replies to calls are taken.
 
-ghost use Rattle.std.specs.Prelude.{◌≡◌, ◌+◌, ◌≤◌, length, vec_len, vec_capacity, IfErr, IfNone, IfOk, IfSome, OnErr};
+ghost use Rattle.std.specs.Prelude.{◌≡◌, ◌+◌, ◌≤◌, [], length, vec_len, vec_capacity, IfErr, IfNone, IfOk, IfSome, OnErr};
 ghost use Rattle.mcv_turn.specs.Answers.{AreTaken, WasMissing, WasTaken};
 ghost use Rattle.mcv_turn.specs.Runs.{Runs};
 
@@ -16,6 +16,14 @@ pub(crate) struct Progress {
     /// How many calls are done with: their replies were taken, or won't come.
     pub(crate) done: usize,
     pub(crate) missed: Option<CoreFault>,
+}
+
+/// How far it has come by taking those that are there.
+#[derive(Clone, Copy)]
+pub(crate) struct Taking {
+    pub(crate) progress: Progress,
+    /// There was memory for each receipt.
+    pub(crate) has_memory: bool,
 }
 
 /// Takes the reply to a call, if it is there.
@@ -48,12 +56,12 @@ pub(crate) fn take_ready<B: HubLedger, T: Ledger>(
     calls: &[CallId],
     progress: Progress,
     taken: &mut Vec<TakenReply>,
-) -> Progress
+) -> Taking
     requires so_far { AreTaken B.opened calls.now progress.done progress.missed taken.old.items }
     requires room { length calls.now ≤ vec_capacity taken.old }
     ensures runs { Runs guard.old [] [] guard.new }
-    ensures so_far { AreTaken B.opened calls.now result.done result.missed taken.new.items }
-    ensures on { progress.done ≤ result.done }
+    ensures so_far { AreTaken B.opened calls.now result.progress.done result.progress.missed taken.new.items }
+    ensures on { progress.done ≤ result.progress.done }
     ensures room { vec_capacity taken.new ≡ vec_capacity taken.old }
     ensures counted { seat.new.taken.amount + vec_len taken.old ≡ seat.old.taken.amount + vec_len taken.new }
     ensures begun { seat.new.begun.amount ≡ seat.old.begun.amount }
@@ -61,19 +69,30 @@ pub(crate) fn take_ready<B: HubLedger, T: Ledger>(
     let mut missed = progress.missed;
     for done in progress.done..calls.len() {
         if kept.reserve(1).is_err() {
-            return Progress { done, missed };
+            return Taking {
+                progress: Progress { done, missed },
+                has_memory: false,
+            };
         }
         match take_one(guard, seat, calls[done]) {
             Ok(Some(reply)) => {
                 kept.keep(&reply);
                 taken.push_reserved(reply);
             }
-            Ok(None) => return Progress { done, missed },
+            Ok(None) => {
+                return Taking {
+                    progress: Progress { done, missed },
+                    has_memory: true,
+                };
+            }
             Err(fault) => missed = Some(fault),
         }
     }
-    Progress {
-        done: calls.len(),
-        missed,
+    Taking {
+        progress: Progress {
+            done: calls.len(),
+            missed,
+        },
+        has_memory: true,
     }
 }

@@ -23,7 +23,7 @@ pub struct Upstream {
     legs: Pipeline,
     output: Outgoing,
     /// The connection is open.
-    open: bool,
+    reads: bool,
 }
 
 impl Model for Upstream {
@@ -35,7 +35,7 @@ impl Model for Upstream {
 
     ghost view = { λ u. record { legs = u.legs; output = u.output } };
 
-    ghost invariant = { λ u. u.open ≡ is_open u.legs.connection };
+    ghost invariant = { λ u. u.reads ≡ is_open u.legs.connection };
 }
 
 /// What is written for a leg, and its rest.
@@ -57,7 +57,7 @@ impl Upstream {
             alloc,
             legs: Pipeline::new(alloc),
             output: Outgoing::new(alloc),
-            open: true,
+            reads: true,
         }
     }
 
@@ -66,7 +66,7 @@ impl Upstream {
     pub fn send(&mut self, leg: LegId, request: &LegRequest) -> Result<(), ReplyFault>
         ensures { SendsText self.old leg (asked_leg request.now) (leg_text (leg_value request.now)) result self.new }
     {
-        if !self.open {
+        if !self.reads {
             return Err(ReplyFault::Closed);
         }
         let Ok((text, rest)) = text_of(self.alloc, request) else {
@@ -109,7 +109,7 @@ impl Upstream {
             Ok(()) => Ok(()),
             Err(fault) => {
                 self.output.clear();
-                self.open = false;
+                self.reads = false;
                 Err(fault)
             }
         }
@@ -121,14 +121,14 @@ impl Upstream {
     {
         self.legs.close();
         self.output.clear();
-        self.open = false;
+        self.reads = false;
     }
 
     /// Whether replies are read: there was no fault, and it wasn't closed.
     pub fn is_open(&self) -> bool
         ensures { result ≡ is_open self.now.legs.connection }
     {
-        self.open
+        self.reads
     }
 
     /// Once the connection is closed: the oldest leg that is lost with it, each once. None where it is open.

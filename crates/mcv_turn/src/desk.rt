@@ -1,0 +1,392 @@
+//! The desk of a loop at one hub.
+
+ghost use Rattle.std.specs.Prelude.{◌≡◌, ◌++◌, [], List, IfOk, IfSome};
+ghost use Rattle.std.specs.Arc.{arc_value};
+ghost use Rattle.mcv_session.specs.Desk.{answer_value};
+ghost use Rattle.mcv_text.specs.Request.{request_value};
+ghost use Rattle.mcv_turn.specs.Answers.{IsAnswer};
+ghost use Rattle.mcv_turn.specs.Runs.{Runs};
+
+use crate::answer::Answer;
+use crate::arrival::Arrival;
+use crate::came::{Came, Gives, StoredLeg};
+use crate::flight::{Departure, Flight};
+use crate::hub_routes::HubRoutes;
+use crate::kept::Kept;
+use crate::landing::{call_of, report};
+use crate::question::Question;
+use crate::sending::take_next;
+use crate::servers::Servers;
+use crate::spooling::{held_leg, is_first_refusal, settle, texts_of};
+use mcv_base::{CallId, LegId, Request, ServerId, ServerText};
+use mcv_core::Dispatcher;
+use mcv_hub::{Gate, Guard, Hub, HubLedger, Receipt, Seat};
+use slab::Slab;
+use std::alloc::{AllocError, Global};
+use std::collections::{HashMap, VecDeque};
+use std::sync::Arc;
+use std::sync::ledger::Ledger;
+
+/// More turns than come: of the servers under one hold of the lock, and of one server's legs.
+const TURNS: u64 = u64::MAX;
+
+/// The desk of a loop at one hub: it is asked requests, which its turns begin, and answers them once they are done.
+#[derive(Drop)]
+pub struct LoopDesk<'a, B: HubLedger, T: Ledger> {
+    alloc: Global,
+    routes: HubRoutes<'a, B>,
+    /// The servers' texts, for records.
+    texts: Vec<Option<ServerText>>,
+    seat: Seat<B, T>,
+    kept: Kept,
+    questions: Slab<Question<B>>,
+    /// Which question waits for the reply to a call.
+    awaited: HashMap<u64, usize>,
+    /// Questions for whose keys calls are to be begun, in this order.
+    entering: VecDeque<usize>,
+    /// Questions of which the next reply may be there.
+    ready: Vec<usize>,
+    /// Questions that are done, in this order.
+    done: VecDeque<usize>,
+    servers: Servers,
+    /// All legs of smaller numbers were noted at their servers.
+    first: u64,
+    /// A record is being written.
+    is_storing: bool,
+    /// For want of memory a question isn't noted where it should be: all are to be looked at.
+    overlooks: bool,
+}
+
+impl<'a, B: HubLedger, T: Ledger> LoopDesk<'a, B, T> {
+    /// A desk over a hub that was asked nothing.
+    pub fn new(
+        alloc: Global,
+        hub: &'a Hub<B, T>,
+        seat: Seat<B, T>,
+    ) -> Result<LoopDesk<'a, B, T>, AllocError> {
+        let routes = HubRoutes::of(hub);
+        let texts = texts_of(alloc, routes.get())?;
+        let servers = Servers::new(alloc, routes.get().servers().len())?;
+        Ok(LoopDesk {
+            alloc,
+            routes,
+            texts,
+            seat,
+            kept: Kept::new(alloc),
+            questions: Slab::new(alloc),
+            awaited: HashMap::new(alloc),
+            entering: VecDeque::new(alloc),
+            ready: Vec::new(alloc),
+            done: VecDeque::new(alloc),
+            servers,
+            first: 0,
+            is_storing: false,
+            overlooks: false,
+        })
+    }
+
+    /// Takes a request: the next turns begin calls for its keys. An error is that memory ran out, and changes nothing.
+    pub fn ask(&mut self, asker: u64, request: Arc<Request>) -> Result<(), AllocError> {
+        let question = Question::new(self.alloc, asker, request)?;
+        self.awaited.reserve(1)?;
+        self.entering.reserve(1)?;
+        let number = self.questions.insert(question)?;
+        if self.entering.push_back(number).is_err() {
+            self.overlooks = true;
+        }
+        Ok(())
+    }
+
+    /// The answer to the next request that is done; None where none is.
+    pub fn answer(&mut self) -> Option<Answer>
+        ensures { IfSome result (λ a. IsAnswer B.opened (request_value (arc_value a.request)) (answer_value a.outcome)) }
+    {
+        let number = self.done.pop_front()?;
+        let question = self.questions.try_remove(number)?;
+        Some(question.into_answer(self.routes.get()))
+    }
+
+    /// How many requests are open: asked, and not answered yet.
+    pub fn open(&self) -> usize {
+        self.questions.len()
+    }
+
+    /// Whether the server was marked in the last turn.
+    pub fn is_marked(&self, server: ServerId) -> bool {
+        self.servers.is_marked(server)
+    }
+
+    /// The seat, and the receipts that were kept.
+    pub fn into_parts(self) -> (Seat<B, T>, Vec<Receipt>) {
+        let LoopDesk { seat, kept, .. } = self;
+        (seat, kept.receipts)
+    }
+
+    /// One turn under the hub's lock: later calls have the era of the moment; what came is reported, in its order; requests begin,
+    /// where the chapter lets them; legs come in flight, until none waits or as many are in flight as may be; and the replies that
+    /// are there are taken.
+    pub fn turn(&mut self, guard: &mut Guard<'_, B, T>, came: Came, gives: &mut Gives) {
+        let Came {
+            moment,
+            arrivals,
+            answering,
+            stored,
+            may_store,
+            waited,
+        } = came;
+        // A moment before the hub's leaves its era as it is.
+        let _ = guard.clock(moment);
+        self.unmark_all(guard, answering.as_slice());
+        self.report_all(guard, arrivals);
+        self.settle(guard, stored);
+        self.take_all(guard);
+        for _round in 0..TURNS {
+            let is_closed = self.enter(guard, waited, gives);
+            self.send_all(guard, &mut gives.flights);
+            self.hold(guard, may_store, gives);
+            self.take_all(guard);
+            if self.entering.is_empty() || is_closed && !guard.core().is_at_rest() {
+                return;
+            }
+        }
+    }
+
+    /// Takes the marks of servers away that answer again.
+    fn unmark_all(&mut self, guard: &mut Guard<'_, B, T>, answering: &[ServerId]) {
+        for server in answering {
+            guard.unmark(*server);
+            self.servers.note_mark(*server, false);
+            self.servers.note_due(*server);
+        }
+    }
+
+    /// Reports what became of legs in flight, in this order.
+    fn report_all(&mut self, guard: &mut Guard<'_, B, T>, arrivals: Vec<Arrival>) {
+        for arrival in arrivals {
+            self.report(guard, arrival);
+        }
+    }
+
+    /// Reports what became of a leg in flight. A leg more of its server may be sent, and the reply to its call may be there.
+    fn report(&mut self, guard: &mut Guard<'_, B, T>, arrival: Arrival) {
+        let server = arrival.server;
+        let call = call_of(guard.core(), arrival.leg);
+        report(guard, arrival);
+        self.servers.note_due(server);
+        self.note_mark(guard.core(), server);
+        self.note_call(guard.core(), call);
+    }
+
+    /// Reports what the spool answered to a record.
+    fn settle(&mut self, guard: &mut Guard<'_, B, T>, stored: Option<StoredLeg>) {
+        let Some(StoredLeg { leg, outcome }) = stored else {
+            return;
+        };
+        self.is_storing = false;
+        let call = call_of(guard.core(), leg);
+        let _ = settle(guard, leg, outcome);
+        self.note_call(guard.core(), call);
+    }
+
+    /// Notes whether the server is marked.
+    fn note_mark(&mut self, core: &Dispatcher, server: ServerId) {
+        self.servers.note_mark(server, core.marked(server));
+    }
+
+    /// The reply to this call may be there: its question is to be looked at, if it waits for that.
+    fn note_call(&mut self, core: &Dispatcher, call: Option<CallId>) {
+        let Some(call) = call else {
+            return;
+        };
+        if !core.can_take(call) {
+            return;
+        }
+        if let Some(number) = self.awaited.get(&call.0) {
+            if self.ready.push(*number).is_err() {
+                self.overlooks = true;
+            }
+        }
+    }
+
+    /// Begins calls for the keys of questions that enter, unless the next chapter is due and can't begin yet. Whether that keeps them
+    /// out.
+    fn enter(&mut self, guard: &mut Guard<'_, B, T>, waited: bool, gives: &mut Gives) -> bool {
+        match guard.gate(self.alloc) {
+            Gate::Open => {}
+            Gate::Turned(past) => gives.past = Some(past),
+            Gate::Closed if waited => {}
+            Gate::Closed => return true,
+        }
+        for _question in 0..self.entering.len() {
+            let Some(number) = self.entering.pop_front() else {
+                break;
+            };
+            self.begin(guard, number);
+        }
+        false
+    }
+
+    /// Begins calls for keys of a question.
+    fn begin(&mut self, guard: &mut Guard<'_, B, T>, number: usize) {
+        let Some(question) = self.questions.get_mut(number) else {
+            return;
+        };
+        question.begin(self.alloc, guard, &mut self.seat);
+        if let Some(call) = question.awaits() {
+            if self.awaited.insert(call.0, number).is_err() {
+                self.overlooks = true;
+            }
+        }
+        if self.ready.push(number).is_err() {
+            self.overlooks = true;
+        }
+    }
+
+    /// Notes the servers of all legs that were launched since they were noted last.
+    fn note_launched(&mut self, core: &Dispatcher) {
+        let next = core.next_leg();
+        for number in self.first..next {
+            if let Some(view) = core.leg(LegId(number)) {
+                self.servers.note_due(view.server);
+            }
+        }
+        self.first = next;
+    }
+
+    /// Puts legs in flight to all servers that are due, until none is. Legs that are lost at once may launch others.
+    fn send_all(&mut self, guard: &mut Guard<'_, B, T>, flights: &mut Vec<Flight>) {
+        for _round in 0..TURNS {
+            self.note_launched(guard.core());
+            if !self.send_round(guard, flights) {
+                return;
+            }
+        }
+    }
+
+    /// Puts legs in flight to each server that is due. Whether one was.
+    fn send_round(&mut self, guard: &mut Guard<'_, B, T>, flights: &mut Vec<Flight>) -> bool {
+        let mut was_due = false;
+        for number in 0..self.servers.count() {
+            if !self.servers.take_due(number) {
+                continue;
+            }
+            if let Ok(number) = u32::try_from(number) {
+                was_due |= self.send_to(guard, ServerId(number), flights);
+            }
+        }
+        was_due
+    }
+
+    /// Puts legs in flight to a server until none waits, or as many are in flight as may be. Whether it was looked at; without memory
+    /// for a flight its legs wait for the next turn.
+    fn send_to(
+        &mut self,
+        guard: &mut Guard<'_, B, T>,
+        server: ServerId,
+        flights: &mut Vec<Flight>,
+    ) -> bool {
+        for _leg in 0..TURNS {
+            if flights.reserve(1).is_err() {
+                self.servers.note_due(server);
+                return false;
+            }
+            match take_next(self.alloc, guard, server) {
+                Ok(Departure::Sent(flight)) => flights.push_reserved(flight),
+                Ok(Departure::Lost { leg: _, call }) => {
+                    self.note_mark(guard.core(), server);
+                    self.note_call(guard.core(), call);
+                }
+                Err(_) => return true,
+            }
+        }
+        true
+    }
+
+    /// Gives the leg out whose record is to be written next. Where the spool isn't to be asked, held legs of which their calls have no
+    /// outcome are refused at once.
+    fn hold(&mut self, guard: &mut Guard<'_, B, T>, may_store: bool, gives: &mut Gives) {
+        for _leg in 0..TURNS {
+            let Some(Some(held)) = held_leg(self.texts.as_slice(), guard) else {
+                return;
+            };
+            if may_store {
+                if !self.is_storing {
+                    self.is_storing = true;
+                    gives.held = Some(held);
+                }
+                return;
+            }
+            let call = call_of(guard.core(), held.leg);
+            if !is_first_refusal(guard.spool_refused(held.leg)) {
+                return;
+            }
+            self.note_call(guard.core(), call);
+        }
+    }
+
+    /// Takes the replies that are there.
+    fn take_all(&mut self, guard: &mut Guard<'_, B, T>) {
+        if self.overlooks {
+            self.look_at_all();
+        }
+        for _question in 0..self.ready.len() {
+            let Some(number) = self.ready.pop() else {
+                return;
+            };
+            self.take(guard, number);
+        }
+    }
+
+    /// Takes the replies to a question that are there.
+    fn take(&mut self, guard: &mut Guard<'_, B, T>, number: usize) {
+        let Some(question) = self.questions.get_mut(number) else {
+            return;
+        };
+        let before = question.awaits();
+        if !question.take(guard, &mut self.seat, &mut self.kept) {
+            self.overlooks = true;
+        }
+        if let Some(call) = before {
+            if question.awaits() == before {
+                return;
+            }
+            let _ = self.awaited.remove(&call.0);
+        }
+        let noted = if question.is_done() {
+            self.done.push_back(number).is_ok()
+        } else if question.wants_calls() {
+            self.entering.push_back(number).is_ok()
+        } else {
+            match question.awaits() {
+                Some(call) => self.awaited.insert(call.0, number).is_ok(),
+                None => true,
+            }
+        };
+        if !noted {
+            self.overlooks = true;
+        }
+    }
+
+    /// Notes each question where it belongs.
+    fn look_at_all(&mut self) {
+        self.entering.clear();
+        self.ready.clear();
+        self.done.clear();
+        self.overlooks = false;
+        for number in 0..self.questions.capacity() {
+            let Some(question) = self.questions.get(number) else {
+                continue;
+            };
+            let noted = if question.is_done() {
+                self.done.push_back(number).is_ok()
+            } else if question.wants_calls() {
+                self.entering.push_back(number).is_ok()
+            } else {
+                self.ready.push(number).is_ok()
+            };
+            if !noted {
+                self.overlooks = true;
+            }
+        }
+    }
+}
