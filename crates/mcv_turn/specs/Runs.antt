@@ -20,18 +20,32 @@ use Rattle.mcv_turn.specs.Steps.{Begins, IsGivenUp, IsReported, IsSent}
 use Rattle.mcv_turn.specs.declared.arrival.Arrival.{Arrival}
 use Rattle.mcv_turn.specs.declared.flight.Flight.{Flight}
 
--- events led from the one state to the other; of these events each arrival is one, in their order, and each flight came in flight by one, in
--- their order, and by no other a leg that is to be sent
-pub data Runs (old : HubView) : List Arrival → List Flight → HubView → Type 0 where
-  stays : Runs old [] [] old
-  clocks : (cs : List Arrival) (fs : List Flight) (mid new : HubView) (moment : Moment) (r : Result (Option Era) CoreFault) → Runs old cs fs mid → IsHubEvent (IsClocked (core_view mid.core) moment r) mid new → Runs old cs fs new
-  unmarks : (cs : List Arrival) (fs : List Flight) (mid new : HubView) (server : ServerId) → Runs old cs fs mid → IsHubEvent (IsUnmarked (core_view mid.core) server) mid new → Runs old cs fs new
-  reports : (cs : List Arrival) (fs : List Flight) (mid new : HubView) (a : Arrival) → Runs old cs fs mid → IsReported a.server a.leg a.reply mid new → Runs old (cs ++ a ∷ []) fs new
-  stores : (cs : List Arrival) (fs : List Flight) (mid new : HubView) (leg : LegId) (stored : Stored) (r : Result Step CoreFault) → Runs old cs fs mid → IsHubEvent (IsSpooledLeg (core_view mid.core) leg stored r) mid new → Runs old cs fs new
-  refuses : (cs : List Arrival) (fs : List Flight) (mid new : HubView) (leg : LegId) (r : Result Step CoreFault) → Runs old cs fs mid → IsHubEvent (IsRefusedLeg (core_view mid.core) leg r) mid new → Runs old cs fs new
-  enters : (cs : List Arrival) (fs : List Flight) (mid new : HubView) (gate : Gate) → Runs old cs fs mid → IsGate mid gate new → Runs old cs fs new
-  begins : (cs : List Arrival) (fs : List Flight) (mid new : HubView) (request : Request) (key : ℕ) (r : Result CallId CoreFault) → Runs old cs fs mid → Begins mid request key r new → Runs old cs fs new
-  sends : (cs : List Arrival) (fs : List Flight) (mid new : HubView) (f : Flight) → Runs old cs fs mid → IsSent f.server f mid new → Runs old cs (fs ++ f ∷ []) new
-  gives_up : (cs : List Arrival) (fs : List Flight) (mid new : HubView) (server : ServerId) (leg : LegId) → Runs old cs fs mid → IsGivenUp server leg mid new → Runs old cs fs new
-  finds_none : (cs : List Arrival) (fs : List Flight) (mid new : HubView) (server : ServerId) (fault : CoreFault) → Runs old cs fs mid → IsHubEvent (IsNext (core_view mid.core) server (Err fault)) mid new → Runs old cs fs new
-  takes : (cs : List Arrival) (fs : List Flight) (mid new : HubView) (call : CallId) (r : Result (Option TakenReply) CoreFault) → Runs old cs fs mid → IsHubEvent (IsTaken (core_view mid.core) call (taken_part r)) mid new → Runs old cs fs new
+-- events led from the one state to the other; of these events each arrival is one, in their order, and by others the flights came in flight,
+-- in their order, and no other leg that is to be sent
+pub data Runs : HubView → List Arrival → List Flight → HubView → Type 0 where
+  nothing : (v : HubView) → Runs v [] [] v
+  clocked : (old new : HubView) (moment : Moment) (r : Result (Option Era) CoreFault) → IsHubEvent (IsClocked (core_view old.core) moment r) old new → Runs old [] [] new
+  unmarked : (old new : HubView) (server : ServerId) → IsHubEvent (IsUnmarked (core_view old.core) server) old new → Runs old [] [] new
+  reported : (old new : HubView) (a : Arrival) → IsReported a.server a.leg a.reply old new → Runs old (a ∷ []) [] new
+  stored : (old new : HubView) (leg : LegId) (s : Stored) (r : Result Step CoreFault) → IsHubEvent (IsSpooledLeg (core_view old.core) leg s r) old new → Runs old [] [] new
+  refused : (old new : HubView) (leg : LegId) (r : Result Step CoreFault) → IsHubEvent (IsRefusedLeg (core_view old.core) leg r) old new → Runs old [] [] new
+  entered : (old new : HubView) (gate : Gate) → IsGate old gate new → Runs old [] [] new
+  begun : (old new : HubView) (request : Request) (key : ℕ) (r : Result CallId CoreFault) → Begins old request key r new → Runs old [] [] new
+  sent : (old new : HubView) (f : Flight) → IsSent f.server f old new → Runs old [] (f ∷ []) new
+  given_up : (old new : HubView) (server : ServerId) (leg : LegId) → IsGivenUp server leg old new → Runs old [] [] new
+  unsent : (old new : HubView) (server : ServerId) (fault : CoreFault) → IsHubEvent (IsNext (core_view old.core) server (Err fault)) old new → Runs old [] [] new
+  taken : (old new : HubView) (call : CallId) (r : Result (Option TakenReply) CoreFault) → IsHubEvent (IsTaken (core_view old.core) call (taken_part r)) old new → Runs old [] [] new
+  -- the one after the other
+  joined : (old mid new : HubView) (cs ds : List Arrival) (fs gs : List Flight) → Runs old cs fs mid → Runs mid ds gs new → Runs old (cs ++ ds) (fs ++ gs) new
+
+-- legs came in flight in a run without arrivals: behind those that were to be sent stand the run's
+pub record SendsMore (old new : HubView) (before after : List Flight) : Type 0 where
+  pub more : List Flight
+  pub are : after ≡ before ++ more
+  pub run : Runs old [] more new
+
+-- a turn: each arrival is reported, and the legs that are to be sent are those that came in flight
+pub record IsTurn (old new : HubView) (arrivals : List Arrival) (before after : List Flight) : Type 0 where
+  pub more : List Flight
+  pub are : after ≡ before ++ more
+  pub run : Runs old arrivals more new

@@ -1,16 +1,16 @@
 //! The desk of a loop at one hub.
 
-ghost use Rattle.std.specs.Prelude.{◌≡◌, ◌++◌, [], List, IfOk, IfSome};
+ghost use Rattle.std.specs.Prelude.{[], ◌∷◌, IfSome};
 ghost use Rattle.std.specs.Arc.{arc_value};
 ghost use Rattle.mcv_session.specs.Desk.{answer_value};
 ghost use Rattle.mcv_text.specs.Request.{request_value};
 ghost use Rattle.mcv_turn.specs.Answers.{IsAnswer};
-ghost use Rattle.mcv_turn.specs.Runs.{Runs};
+ghost use Rattle.mcv_turn.specs.Runs.{IsTurn, Runs, SendsMore};
 
 use crate::answer::Answer;
 use crate::arrival::Arrival;
 use crate::came::{Came, Gives, StoredLeg};
-use crate::flight::{Departure, Flight};
+use crate::flight::{Departure, Flight, HeldLeg};
 use crate::hub_routes::HubRoutes;
 use crate::kept::Kept;
 use crate::landing::{call_of, report};
@@ -18,9 +18,9 @@ use crate::question::Question;
 use crate::sending::take_next;
 use crate::servers::Servers;
 use crate::spooling::{held_leg, is_first_refusal, settle, texts_of};
-use mcv_base::{CallId, LegId, Request, ServerId, ServerText};
+use mcv_base::{CallId, LegId, Moment, Request, ServerId, ServerText};
 use mcv_core::Dispatcher;
-use mcv_hub::{Gate, Guard, Hub, HubLedger, Receipt, Seat};
+use mcv_hub::{Gate, Guard, Hub, HubLedger, Past, Receipt, Seat};
 use slab::Slab;
 use std::alloc::{AllocError, Global};
 use std::collections::{HashMap, VecDeque};
@@ -125,7 +125,9 @@ impl<'a, B: HubLedger, T: Ledger> LoopDesk<'a, B, T> {
     /// One turn under the hub's lock: later calls have the era of the moment; what came is reported, in its order; requests begin,
     /// where the chapter lets them; legs come in flight, until none waits or as many are in flight as may be; and the replies that
     /// are there are taken.
-    pub fn turn(&mut self, guard: &mut Guard<'_, B, T>, came: Came, gives: &mut Gives) {
+    pub fn turn(&mut self, guard: &mut Guard<'_, B, T>, came: Came, gives: &mut Gives)
+        ensures { IsTurn guard.old guard.new came.arrivals.items gives.old.flights.items gives.new.flights.items }
+    {
         let Came {
             moment,
             arrivals,
@@ -134,16 +136,43 @@ impl<'a, B: HubLedger, T: Ledger> LoopDesk<'a, B, T> {
             may_store,
             waited,
         } = came;
+        self.note_all(guard, moment, answering.as_slice(), arrivals, stored);
+        self.go_round(guard, may_store, waited, gives);
+    }
+
+    /// Reports what came.
+    fn note_all(
+        &mut self,
+        guard: &mut Guard<'_, B, T>,
+        moment: Moment,
+        answering: &[ServerId],
+        arrivals: Vec<Arrival>,
+        stored: Option<StoredLeg>,
+    )
+        ensures { Runs guard.old arrivals.items [] guard.new }
+    {
         // A moment before the hub's leaves its era as it is.
         let _ = guard.clock(moment);
-        self.unmark_all(guard, answering.as_slice());
+        self.unmark_all(guard, answering);
         self.report_all(guard, arrivals);
         self.settle(guard, stored);
         self.take_all(guard);
+    }
+
+    /// Requests begin and legs come in flight, until there is nothing to be done before something comes.
+    fn go_round(
+        &mut self,
+        guard: &mut Guard<'_, B, T>,
+        may_store: bool,
+        waited: bool,
+        gives: &mut Gives,
+    )
+        ensures { SendsMore guard.old guard.new gives.old.flights.items gives.new.flights.items }
+    {
         for _round in 0..TURNS {
-            let is_closed = self.enter(guard, waited, gives);
+            let is_closed = self.enter(guard, waited, &mut gives.past);
             self.send_all(guard, &mut gives.flights);
-            self.hold(guard, may_store, gives);
+            self.hold(guard, may_store, &mut gives.held);
             self.take_all(guard);
             if self.entering.is_empty() || is_closed && !guard.core().is_at_rest() {
                 return;
@@ -152,7 +181,9 @@ impl<'a, B: HubLedger, T: Ledger> LoopDesk<'a, B, T> {
     }
 
     /// Takes the marks of servers away that answer again.
-    fn unmark_all(&mut self, guard: &mut Guard<'_, B, T>, answering: &[ServerId]) {
+    fn unmark_all(&mut self, guard: &mut Guard<'_, B, T>, answering: &[ServerId])
+        ensures { Runs guard.old [] [] guard.new }
+    {
         for server in answering {
             guard.unmark(*server);
             self.servers.note_mark(*server, false);
@@ -161,14 +192,18 @@ impl<'a, B: HubLedger, T: Ledger> LoopDesk<'a, B, T> {
     }
 
     /// Reports what became of legs in flight, in this order.
-    fn report_all(&mut self, guard: &mut Guard<'_, B, T>, arrivals: Vec<Arrival>) {
+    fn report_all(&mut self, guard: &mut Guard<'_, B, T>, arrivals: Vec<Arrival>)
+        ensures { Runs guard.old arrivals.items [] guard.new }
+    {
         for arrival in arrivals {
             self.report(guard, arrival);
         }
     }
 
     /// Reports what became of a leg in flight. A leg more of its server may be sent, and the reply to its call may be there.
-    fn report(&mut self, guard: &mut Guard<'_, B, T>, arrival: Arrival) {
+    fn report(&mut self, guard: &mut Guard<'_, B, T>, arrival: Arrival)
+        ensures { Runs guard.old (arrival ∷ []) [] guard.new }
+    {
         let server = arrival.server;
         let call = call_of(guard.core(), arrival.leg);
         report(guard, arrival);
@@ -178,7 +213,9 @@ impl<'a, B: HubLedger, T: Ledger> LoopDesk<'a, B, T> {
     }
 
     /// Reports what the spool answered to a record.
-    fn settle(&mut self, guard: &mut Guard<'_, B, T>, stored: Option<StoredLeg>) {
+    fn settle(&mut self, guard: &mut Guard<'_, B, T>, stored: Option<StoredLeg>)
+        ensures { Runs guard.old [] [] guard.new }
+    {
         let Some(StoredLeg { leg, outcome }) = stored else {
             return;
         };
@@ -210,10 +247,12 @@ impl<'a, B: HubLedger, T: Ledger> LoopDesk<'a, B, T> {
 
     /// Begins calls for the keys of questions that enter, unless the next chapter is due and can't begin yet. Whether that keeps them
     /// out.
-    fn enter(&mut self, guard: &mut Guard<'_, B, T>, waited: bool, gives: &mut Gives) -> bool {
+    fn enter(&mut self, guard: &mut Guard<'_, B, T>, waited: bool, past: &mut Option<Past>) -> bool
+        ensures { Runs guard.old [] [] guard.new }
+    {
         match guard.gate(self.alloc) {
             Gate::Open => {}
-            Gate::Turned(past) => gives.past = Some(past),
+            Gate::Turned(old) => *past = Some(old),
             Gate::Closed if waited => {}
             Gate::Closed => return true,
         }
@@ -227,7 +266,9 @@ impl<'a, B: HubLedger, T: Ledger> LoopDesk<'a, B, T> {
     }
 
     /// Begins calls for keys of a question.
-    fn begin(&mut self, guard: &mut Guard<'_, B, T>, number: usize) {
+    fn begin(&mut self, guard: &mut Guard<'_, B, T>, number: usize)
+        ensures { Runs guard.old [] [] guard.new }
+    {
         let Some(question) = self.questions.get_mut(number) else {
             return;
         };
@@ -254,7 +295,9 @@ impl<'a, B: HubLedger, T: Ledger> LoopDesk<'a, B, T> {
     }
 
     /// Puts legs in flight to all servers that are due, until none is. Legs that are lost at once may launch others.
-    fn send_all(&mut self, guard: &mut Guard<'_, B, T>, flights: &mut Vec<Flight>) {
+    fn send_all(&mut self, guard: &mut Guard<'_, B, T>, flights: &mut Vec<Flight>)
+        ensures { SendsMore guard.old guard.new flights.old.items flights.new.items }
+    {
         for _round in 0..TURNS {
             self.note_launched(guard.core());
             if !self.send_round(guard, flights) {
@@ -264,7 +307,9 @@ impl<'a, B: HubLedger, T: Ledger> LoopDesk<'a, B, T> {
     }
 
     /// Puts legs in flight to each server that is due. Whether one was.
-    fn send_round(&mut self, guard: &mut Guard<'_, B, T>, flights: &mut Vec<Flight>) -> bool {
+    fn send_round(&mut self, guard: &mut Guard<'_, B, T>, flights: &mut Vec<Flight>) -> bool
+        ensures { SendsMore guard.old guard.new flights.old.items flights.new.items }
+    {
         let mut was_due = false;
         for number in 0..self.servers.count() {
             if !self.servers.take_due(number) {
@@ -284,7 +329,9 @@ impl<'a, B: HubLedger, T: Ledger> LoopDesk<'a, B, T> {
         guard: &mut Guard<'_, B, T>,
         server: ServerId,
         flights: &mut Vec<Flight>,
-    ) -> bool {
+    ) -> bool
+        ensures { SendsMore guard.old guard.new flights.old.items flights.new.items }
+    {
         for _leg in 0..TURNS {
             if flights.reserve(1).is_err() {
                 self.servers.note_due(server);
@@ -304,7 +351,9 @@ impl<'a, B: HubLedger, T: Ledger> LoopDesk<'a, B, T> {
 
     /// Gives the leg out whose record is to be written next. Where the spool isn't to be asked, held legs of which their calls have no
     /// outcome are refused at once.
-    fn hold(&mut self, guard: &mut Guard<'_, B, T>, may_store: bool, gives: &mut Gives) {
+    fn hold(&mut self, guard: &mut Guard<'_, B, T>, may_store: bool, next: &mut Option<HeldLeg>)
+        ensures { Runs guard.old [] [] guard.new }
+    {
         for _leg in 0..TURNS {
             let Some(Some(held)) = held_leg(self.texts.as_slice(), guard) else {
                 return;
@@ -312,7 +361,7 @@ impl<'a, B: HubLedger, T: Ledger> LoopDesk<'a, B, T> {
             if may_store {
                 if !self.is_storing {
                     self.is_storing = true;
-                    gives.held = Some(held);
+                    *next = Some(held);
                 }
                 return;
             }
@@ -325,7 +374,9 @@ impl<'a, B: HubLedger, T: Ledger> LoopDesk<'a, B, T> {
     }
 
     /// Takes the replies that are there.
-    fn take_all(&mut self, guard: &mut Guard<'_, B, T>) {
+    fn take_all(&mut self, guard: &mut Guard<'_, B, T>)
+        ensures { Runs guard.old [] [] guard.new }
+    {
         if self.overlooks {
             self.look_at_all();
         }
@@ -338,7 +389,9 @@ impl<'a, B: HubLedger, T: Ledger> LoopDesk<'a, B, T> {
     }
 
     /// Takes the replies to a question that are there.
-    fn take(&mut self, guard: &mut Guard<'_, B, T>, number: usize) {
+    fn take(&mut self, guard: &mut Guard<'_, B, T>, number: usize)
+        ensures { Runs guard.old [] [] guard.new }
+    {
         let Some(question) = self.questions.get_mut(number) else {
             return;
         };

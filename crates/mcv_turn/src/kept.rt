@@ -60,7 +60,7 @@ impl Kept {
     }
 
     /// Keeps the receipt of a reply, and drops those of earlier chapters.
-    fn keep(&mut self, taken: &TakenReply)
+    pub(crate) fn keep(&mut self, taken: &TakenReply)
         requires { vec_len self.old.receipts < vec_capacity self.old.receipts }
         ensures kept { self.new.receipts.items ≡ with_receipt self.old.receipts.items taken.now }
         ensures len { vec_len self.new.receipts ≤ vec_len self.old.receipts + 1 }
@@ -69,15 +69,5 @@ impl Kept {
         let receipt = taken.receipt();
         self.enter(receipt.chapter);
         self.receipts.push_reserved(receipt);
-    }
-
-    /// Keeps the receipts of replies, in their order.
-    pub(crate) fn keep_all(&mut self, taken: &[TakenReply])
-        requires { vec_len self.old.receipts + length taken.now ≤ vec_capacity self.old.receipts }
-        ensures { self.new.receipts.items ≡ fold with_receipt self.old.receipts.items taken.now }
-    {
-        for reply in taken {
-            self.keep(reply);
-        }
     }
 }

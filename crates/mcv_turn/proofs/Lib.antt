@@ -1,0 +1,6 @@
+pub mod Books
+pub mod Legs
+pub mod Receipts
+pub mod Routed
+pub mod Runs
+pub mod Taken

@@ -1,0 +1,50 @@
+-- Runs of events, one after the other.
+use Rattle.std.proofs.Common.{◌≡◌, ◌∙◌, ◌++◌, ◌∷◌, [], List, refl, sym, ap, subst, append-nil, append_assoc}
+use Rattle.mcv_hub.specs.State.{HubView}
+use Rattle.mcv_turn.specs.Runs.{IsTurn, Runs, SendsMore, joined, nothing, reported, sent}
+use Rattle.mcv_turn.specs.Steps.{IsReported, IsSent}
+use Rattle.mcv_turn.specs.declared.arrival.Arrival.{Arrival}
+use Rattle.mcv_turn.specs.declared.flight.Flight.{Flight}
+
+module _ (old mid new : HubView) where
+  pub quiet : Runs old [] [] mid → Runs mid [] [] new → Runs old [] [] new
+  quiet h k = joined old mid new [] [] [] [] h k
+
+  -- a run without arrivals and flights behind another one
+  pub then_quiet : (cs : List Arrival) (fs : List Flight) → Runs old cs fs mid → Runs mid [] [] new → Runs old cs fs new
+  then_quiet cs fs h k =
+      let P : List Arrival → Type 0 = λ xs. Runs old xs fs new in
+      let Q : List Flight → Type 0 = λ xs. Runs old (cs ++ []) xs new in
+      subst P (append-nil cs) (subst Q (append-nil fs) (joined old mid new cs [] fs [] h k))
+
+  -- or before it
+  pub quiet_then : (cs : List Arrival) (fs : List Flight) → Runs old [] [] mid → Runs mid cs fs new → Runs old cs fs new
+  quiet_then cs fs h k = joined old mid new [] cs [] fs h k
+
+  pub one_arrival_more : (cs : List Arrival) (a : Arrival) → Runs old cs [] mid → Runs mid (a ∷ []) [] new → Runs old (cs ++ a ∷ []) [] new
+  one_arrival_more cs a h k = joined old mid new cs (a ∷ []) [] [] h k
+
+-- legs come in flight
+
+pub none_sent : (v : HubView) (before : List Flight) → SendsMore v v before before
+none_sent v before = record { more = []; are = sym (append-nil before); run = nothing v }
+
+pub one_sent : (old mid new : HubView) (before now after : List Flight) (f : Flight) → SendsMore old mid before now → IsSent f.server f mid new → after ≡ now ++ f ∷ [] → SendsMore old new before after
+one_sent old mid new before now after f h s e =
+    record { more = h.more ++ f ∷ []; are = e ∙ ap (λ t. t ++ f ∷ []) h.are ∙ append_assoc before h.more (f ∷ []); run = joined old mid new [] [] h.more (f ∷ []) h.run (sent mid new f s) }
+
+pub sent_then_quiet : (old mid new : HubView) (before after : List Flight) → SendsMore old mid before after → Runs mid [] [] new → SendsMore old new before after
+sent_then_quiet old mid new before after h k = record { more = h.more; are = h.are; run = then_quiet old mid new [] h.more h.run k }
+
+pub quiet_then_sent : (old mid new : HubView) (before after : List Flight) → Runs old [] [] mid → SendsMore mid new before after → SendsMore old new before after
+quiet_then_sent old mid new before after h k = record { more = k.more; are = k.are; run = quiet_then old mid new [] k.more h k.run }
+
+pub sent_on : (old mid new : HubView) (before now after : List Flight) → SendsMore old mid before now → SendsMore mid new now after → SendsMore old new before after
+sent_on old mid new before now after h k =
+    record { more = h.more ++ k.more; are = k.are ∙ ap (λ t. t ++ k.more) h.are ∙ append_assoc before h.more k.more; run = joined old mid new [] [] h.more k.more h.run k.run }
+
+-- what came, and then what is sent
+pub turned : (old mid new : HubView) (arrivals : List Arrival) (before after : List Flight) → Runs old arrivals [] mid → SendsMore mid new before after → IsTurn old new arrivals before after
+turned old mid new arrivals before after h k =
+    let P : List Arrival → Type 0 = λ xs. Runs old xs k.more new in
+    record { more = k.more; are = k.are; run = subst P (append-nil arrivals) (joined old mid new arrivals [] [] k.more h k.run) }
