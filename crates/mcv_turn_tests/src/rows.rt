@@ -5,6 +5,7 @@ ghost use Rattle.std.specs.Arc.{arc_value};
 ghost use Rattle.mcv_core.specs.Opening.{opened_view};
 
 use crate::scene::{SEATS, Scene, accepted_of, hub_of};
+use mcv_base::ServerId;
 use mcv_check::Accepted;
 use mcv_hub::HubLedger;
 use std::marker::Brand;
@@ -28,6 +29,9 @@ enum Row {
     ServerDies,
     ClientGoes,
     SpoolRefuses,
+    SpoolTakes,
+    LongLine,
+    MarkedServer,
 }
 
 /// Two sessions at once: each is answered its own replies, in the order of its requests.
@@ -116,8 +120,8 @@ fn server_dies<B: HubLedger, T: Ledger, R: AllocGlobal + Abort + Wait>(
             scene.refuse(rt);
         }
     }
-    scene.check_told(rt, 0, b"SERVER_ERROR connection lost\r\n");
-    scene.check_told(rt, 1, b"SERVER_ERROR connection lost\r\n");
+    scene.check_told(rt, 0, b"SERVER_ERROR destination failed\r\n");
+    scene.check_told(rt, 1, b"SERVER_ERROR destination failed\r\n");
     scene.check_told(rt, 2, b"END\r\n");
     scene.check_books(rt, 3);
 }
@@ -150,8 +154,85 @@ fn spool_refuses<B: HubLedger, T: Ledger, R: AllocGlobal + Abort + Wait>(
     scene.round(rt);
     scene.break_off(rt, 0);
     scene.round(rt);
-    scene.check_told(rt, 0, b"SERVER_ERROR connection lost\r\n");
+    scene.check_told(rt, 0, b"SERVER_ERROR destination failed\r\n");
     scene.check_books(rt, 1);
+}
+
+/// Deletes of a server that died are answered NOT_FOUND once their records are stored, one after the other, and each once.
+fn spool_takes<B: HubLedger, T: Ledger, R: AllocGlobal + Abort + Wait>(
+    rt: &R,
+    scene: Scene<'_, B, T>,
+) {
+    let mut scene = scene;
+    scene.send(rt, 0, b"delete a\r\n");
+    scene.send(rt, 1, b"delete b\r\n");
+    scene.round(rt);
+    scene.break_off(rt, 0);
+    scene.round(rt);
+    scene.check_told(rt, 0, b"");
+    for _round in 0..6 {
+        if scene.held.is_some() {
+            scene.store(rt);
+        } else {
+            scene.break_off(rt, 0);
+        }
+        scene.round(rt);
+    }
+    scene.check_told(rt, 0, b"NOT_FOUND\r\n");
+    scene.check_told(rt, 1, b"NOT_FOUND\r\n");
+    scene.check_asked(rt, 0, "");
+    scene.check_books(rt, 2);
+}
+
+/// A line of 1,500 keys: at most 1,024 calls of it run at a time, so another client's get is asked between them.
+fn long_line<B: HubLedger, T: Ledger, R: AllocGlobal + Abort + Wait>(
+    rt: &R,
+    scene: Scene<'_, B, T>,
+) {
+    let mut scene = scene;
+    let mut line = Vec::from_slice(rt.alloc(), b"get").expect(rt, "memory");
+    for _key in 0..1_500 {
+        line.extend_from_slice(b" k").expect(rt, "memory");
+    }
+    line.extend_from_slice(b"\r\n").expect(rt, "memory");
+    scene.send(rt, 0, line.as_slice());
+    scene.round(rt);
+    scene.send(rt, 1, b"get other\r\n");
+    for _round in 0..1_600 {
+        scene.pass(rt);
+    }
+    scene.check_told(rt, 0, b"END\r\n");
+    scene.check_told(rt, 1, b"END\r\n");
+    let asked = scene.asked(rt, 0);
+    let at = asked.lines().position(|line| line == "get other");
+    let at = at.expect(rt, "the other client's get");
+    assert!(rt; at == 1_024, "it was asked behind {at} others");
+    scene.check_books(rt, 1_501);
+}
+
+/// A server that failed three times is marked: its legs are lost at once, until it answers a probe.
+fn marked_server<B: HubLedger, T: Ledger, R: AllocGlobal + Abort + Wait>(
+    rt: &R,
+    scene: Scene<'_, B, T>,
+) {
+    let mut scene = scene;
+    for _failure in 0..3 {
+        scene.send(rt, 0, b"get a\r\n");
+        scene.round(rt);
+        assert!(rt; scene.break_off(rt, 0) == 1, "no leg was in flight");
+        scene.connect(rt, 0);
+        scene.round(rt);
+    }
+    assert!(rt; scene.desk.is_marked(ServerId(0)), "it isn't marked");
+    scene.send(rt, 0, b"get a\r\n");
+    scene.round(rt);
+    scene.check_told(rt, 0, b"END\r\nEND\r\nEND\r\nEND\r\n");
+    scene.answers_probe(rt, ServerId(0));
+    scene.send(rt, 0, b"get a\r\n");
+    scene.settle(rt, 5);
+    scene.check_told(rt, 0, b"END\r\nEND\r\nEND\r\nEND\r\nEND\r\n");
+    scene.check_asked(rt, 0, "get a\n");
+    scene.check_books(rt, 5);
 }
 
 /// Plays a row over a hub of its own.
@@ -176,6 +257,9 @@ fn play<B: HubLedger, T: Ledger, R: AllocGlobal + Abort + Wait>(
         Row::ServerDies => server_dies(rt, scene),
         Row::ClientGoes => client_goes(rt, scene),
         Row::SpoolRefuses => spool_refuses(rt, scene),
+        Row::SpoolTakes => spool_takes(rt, scene),
+        Row::LongLine => long_line(rt, scene),
+        Row::MarkedServer => marked_server(rt, scene),
     }
 }
 
@@ -219,4 +303,19 @@ fn a_client_that_goes_in_the_middle_of_its_request(rt: HostRuntime) {
 #[test]
 fn a_spool_that_refuses(rt: HostRuntime) {
     play_one(&rt, Row::SpoolRefuses, ONE);
+}
+
+#[test]
+fn a_spool_that_takes_records(rt: HostRuntime) {
+    play_one(&rt, Row::SpoolTakes, ONE);
+}
+
+#[test]
+fn a_line_of_many_keys(rt: HostRuntime) {
+    play_one(&rt, Row::LongLine, ONE);
+}
+
+#[test]
+fn a_server_that_is_marked(rt: HostRuntime) {
+    play_one(&rt, Row::MarkedServer, ONE);
 }

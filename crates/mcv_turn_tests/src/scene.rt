@@ -4,13 +4,14 @@ ghost use Rattle.std.specs.Prelude.{◌≡◌, ◌+◌, []};
 ghost use Rattle.std.specs.Arc.{arc_value};
 ghost use Rattle.mcv_core.specs.Opening.{opened_view};
 
+use crate::disk::MemoryDisk;
 use crate::server::Server;
 use mcv_base::{LegId, Moment, ServerId};
 use mcv_check::Accepted;
 use mcv_hub::{Capacity, Hub, HubLedger, Pass, Passes, Receipt, Report, Seat};
 use mcv_pipeline::Landed;
 use mcv_session::Machine;
-use mcv_spool::SpoolFault;
+use mcv_spool::{Spool, SpoolFault};
 use mcv_turn::{Answer, Arrival, Came, Gives, HeldLeg, LoopDesk, StoredLeg};
 use mcv_upstream::Upstream;
 use mcv_verdict::{Judgement, judge_input};
@@ -68,6 +69,7 @@ pub(crate) struct Scene<'a, B: HubLedger, T: Ledger> {
     pub(crate) servers: Vec<Server>,
     pub(crate) clients: Vec<Client>,
     came: Came,
+    spool: Spool<MemoryDisk>,
     /// The record that is to be written.
     pub(crate) held: Option<HeldLeg>,
 }
@@ -92,6 +94,9 @@ impl<'a, B: HubLedger, T: Ledger> Scene<'a, B, T> {
             servers: Vec::new(alloc),
             clients: Vec::new(alloc),
             came: Came::at(alloc, Moment(0)),
+            spool: Spool::open(alloc, MemoryDisk::new(alloc))
+                .ok()
+                .expect(rt, "a spool"),
             held: None,
         };
         for _server in 0..servers {
@@ -142,9 +147,14 @@ impl<'a, B: HubLedger, T: Ledger> Scene<'a, B, T> {
         });
     }
 
-    pub(crate) fn store(&mut self, stored: StoredLeg) {
-        self.held = None;
-        self.came.stored = Some(stored);
+    /// The record that was to be written is.
+    pub(crate) fn store(&mut self, rt: &impl Abort) {
+        let held = self.held.take().expect(rt, "a record");
+        let HeldLeg { leg, delete } = held;
+        self.came.stored = Some(StoredLeg {
+            leg,
+            outcome: self.spool.append(delete),
+        });
     }
 
     /// Asks the desk the next request of each client that has one.
@@ -272,6 +282,29 @@ impl<'a, B: HubLedger, T: Ledger> Scene<'a, B, T> {
     pub(crate) fn connect(&mut self, rt: &(impl AllocGlobal + Abort), server: usize) {
         let found = self.upstreams.get_mut(server).expect(rt, "a server");
         *found = Upstream::new(rt.alloc());
+    }
+
+    /// One round, and what the servers answer to it.
+    pub(crate) fn pass<R: AllocGlobal + Abort + Wait>(&mut self, rt: &R) {
+        self.round(rt);
+        for server in 0..self.servers.len() {
+            self.serve(rt, server);
+            self.hear(rt, server, 1_000);
+        }
+    }
+
+    /// A marked server has answered a probe.
+    pub(crate) fn answers_probe(&mut self, rt: &impl Abort, server: ServerId) {
+        self.came.answering.push(server).expect(rt, "memory");
+    }
+
+    /// What a server was asked.
+    pub(crate) fn asked(&self, rt: &impl Abort, server: usize) -> &str {
+        self.servers
+            .get(server)
+            .expect(rt, "a server")
+            .asked
+            .as_str()
     }
 
     /// Rounds until nothing more comes of them.
