@@ -9,11 +9,19 @@ use mcv_hub::TakenReply;
 use mcv_session::DeskFault;
 use std::sync::Arc;
 
+/// Who asks a request.
+#[derive(Clone, Copy, Debug, PartialEq, Eq)]
+pub enum Asker {
+    /// The session of this number.
+    Session(u64),
+    /// A request of several hubs, for its key of this number alone.
+    Key { request: usize, key: usize },
+}
+
 /// The answer to a request: a reply for each of its keys, in their order, or why there is none.
 #[derive(Drop)]
 pub struct Answer {
-    /// Who asked it.
-    pub asker: u64,
+    pub asker: Asker,
     pub request: Arc<Request>,
     pub outcome: Result<Vec<Part>, DeskFault>,
 }

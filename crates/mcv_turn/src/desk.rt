@@ -7,7 +7,7 @@ ghost use Rattle.mcv_text.specs.Request.{request_value};
 ghost use Rattle.mcv_turn.specs.Answers.{IsAnswer};
 ghost use Rattle.mcv_turn.specs.Runs.{IsTurn, Runs, SendsMore};
 
-use crate::answer::Answer;
+use crate::answer::{Answer, Asker};
 use crate::arrival::Arrival;
 use crate::came::{Came, Gives, StoredLeg};
 use crate::flight::{Departure, Flight, HeldLeg};
@@ -86,7 +86,7 @@ impl<'a, B: HubLedger, T: Ledger> LoopDesk<'a, B, T> {
     }
 
     /// Takes a request: the next turns begin calls for its keys. An error is that memory ran out, and changes nothing.
-    pub fn ask(&mut self, asker: u64, request: Arc<Request>) -> Result<(), AllocError> {
+    pub fn ask(&mut self, asker: Asker, request: Arc<Request>) -> Result<(), AllocError> {
         let question = Question::new(self.alloc, asker, request)?;
         self.awaited.reserve(1)?;
         self.entering.reserve(1)?;
@@ -102,6 +102,10 @@ impl<'a, B: HubLedger, T: Ledger> LoopDesk<'a, B, T> {
         ensures { IfSome result (λ a. IsAnswer B.opened (request_value (arc_value a.request)) (answer_value a.outcome)) }
     {
         let number = self.done.pop_front()?;
+        if !self.questions.get(number)?.is_done() {
+            self.overlooks = true;
+            return None;
+        }
         let question = self.questions.try_remove(number)?;
         Some(question.into_answer(self.routes.get()))
     }
@@ -109,6 +113,11 @@ impl<'a, B: HubLedger, T: Ledger> LoopDesk<'a, B, T> {
     /// How many requests are open: asked, and not answered yet.
     pub fn open(&self) -> usize {
         self.questions.len()
+    }
+
+    /// Whether requests wait to begin.
+    pub fn waits(&self) -> bool {
+        !self.entering.is_empty()
     }
 
     /// Whether the server was marked in the last turn.

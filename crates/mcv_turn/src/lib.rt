@@ -21,7 +21,7 @@ mod servers;
 mod spooling;
 mod take;
 
-pub use crate::answer::{Answer, fault_for};
+pub use crate::answer::{Answer, Asker, fault_for};
 pub use crate::arrival::Arrival;
 pub use crate::came::{Came, Gives, StoredLeg};
 pub use crate::desk::LoopDesk;

@@ -1,15 +1,14 @@
 //! A request at a hub, from its first call to its last reply.
 
-ghost use Rattle.std.specs.Prelude.{◌≡◌, ◌+◌, [], IfOk, length};
+ghost use Rattle.std.specs.Prelude.{◌≡◌, [], true, None, IfNone, IfOk, IfSome};
 ghost use Rattle.std.specs.Arc.{arc_value};
-ghost use Rattle.mcv_route.specs.Routes.{RoutesValue};
 ghost use Rattle.mcv_session.specs.Desk.{answer_value};
 ghost use Rattle.mcv_text.specs.Request.{request_value};
-ghost use Rattle.mcv_turn.specs.Answers.{IsAnswer};
+ghost use Rattle.mcv_turn.specs.Answers.{AreFor, IsAnswer};
 ghost use Rattle.mcv_turn.specs.Runs.{Runs};
-ghost use Rattle.mcv_turn.specs.Question.{QuestionView};
+ghost use Rattle.mcv_turn.specs.Question.{IsCause, IsDone};
 
-use crate::answer::{Answer, fault_for, into_parts};
+use crate::answer::{Answer, Asker, fault_for, into_parts};
 use crate::begin::begin_each;
 use crate::kept::Kept;
 use crate::keys::{are_for, key_count};
@@ -30,8 +29,7 @@ const MOST_RUNNING: usize = 1024;
 /// and their replies are taken, in the order of the calls. Clauses see the request, the calls, and what was taken.
 #[derive(Drop)]
 pub(crate) struct Question<B: HubLedger> {
-    /// Who asks it.
-    asker: u64,
+    asker: Asker,
     request: Arc<Request>,
     /// How many keys it has.
     count: usize,
@@ -62,32 +60,32 @@ fn next_limit(count: usize, done: usize) -> usize {
     count.min(done.saturating_add(MOST_RUNNING))
 }
 
-/// What a request is answered: the replies, where they are for its keys, or why calls weren't begun, or had no reply.
-fn outcome_of(
+/// Why a request has no replies, now that its calls are done with: one has none, they are for other keys, or no call was begun for
+/// a key.
+fn why_not(
     routes: &Routes,
     request: &Request,
-    taken: Vec<TakenReply>,
-    parts: Vec<Part>,
+    taken: &[TakenReply],
     missed: Option<CoreFault>,
     refused: Option<CoreFault>,
-) -> Result<Vec<Part>, CoreFault> {
+) -> Option<CoreFault>
+    ensures none { IfNone result ((missed ≡ None) × (refused ≡ None) × AreFor routes.now (request_value request.now) taken.now) }
+    ensures some { IfSome result (IsCause routes.now (request_value request.now) taken.now missed refused) }
+{
     if let Some(fault) = missed {
-        return Err(fault);
+        return Some(fault);
     }
-    if !are_for(routes, request, taken.as_slice()) {
-        return Err(CoreFault::NoSuchCall);
+    if !are_for(routes, request, taken) {
+        return Some(CoreFault::NoSuchCall);
     }
-    match refused {
-        Some(fault) => Err(fault),
-        None => Ok(into_parts(taken, parts)),
-    }
+    refused
 }
 
 impl<B: HubLedger> Question<B> {
     /// A request for which no call is begun yet.
     pub(crate) fn new(
         alloc: Global,
-        asker: u64,
+        asker: Asker,
         request: Arc<Request>,
     ) -> Result<Question<B>, AllocError>
         ensures { IfOk result (λ q. q ≡ record { request = request_value (arc_value request); calls = []; taken = []; done = 0; refused = None }) }
@@ -164,15 +162,19 @@ impl<B: HubLedger> Question<B> {
     }
 
     /// Whether it can be answered: all calls are done with, and no further one is to be begun.
-    pub(crate) fn is_done(&self) -> bool {
+    pub(crate) fn is_done(&self) -> bool
+        ensures { result ≡ true → IsDone self.now }
+    {
         self.progress.done == self.calls.len()
             && (self.refused.is_some() || self.calls.len() == self.count)
     }
 
-    /// Its answer.
+    /// Its answer, once it is done.
     pub(crate) fn into_answer(self, routes: &Routes) -> Answer
-        requires { routes.now ≡ B.opened.routes }
-        ensures { IsAnswer B.opened (request_value (arc_value result.request)) (answer_value result.outcome) }
+        requires routes { routes.now ≡ B.opened.routes }
+        requires done { IsDone self }
+        ensures request { request_value (arc_value result.request) ≡ self.request }
+        ensures answer { IsAnswer B.opened self.request (answer_value result.outcome) }
     {
         let Question {
             asker,
@@ -183,14 +185,14 @@ impl<B: HubLedger> Question<B> {
             refused,
             ..
         } = self;
-        let outcome = outcome_of(routes, &request, taken, parts, progress.missed, refused);
+        let outcome = match why_not(routes, &request, taken.as_slice(), progress.missed, refused) {
+            Some(fault) => Err(fault_for(fault)),
+            None => Ok(into_parts(taken, parts)),
+        };
         Answer {
             asker,
             request,
-            outcome: match outcome {
-                Ok(parts) => Ok(parts),
-                Err(fault) => Err(fault_for(fault)),
-            },
+            outcome,
         }
     }
 }

@@ -12,7 +12,7 @@ use mcv_hub::{Capacity, Hub, HubLedger, Pass, Passes, Receipt, Report, Seat};
 use mcv_pipeline::Landed;
 use mcv_session::Machine;
 use mcv_spool::{Spool, SpoolFault};
-use mcv_turn::{Answer, Arrival, Came, Gives, HeldLeg, LoopDesk, StoredLeg};
+use mcv_turn::{Answer, Arrival, Asker, Came, Gives, HeldLeg, LoopDesk, StoredLeg};
 use mcv_upstream::Upstream;
 use mcv_verdict::{Judgement, judge_input};
 use std::process::Abort;
@@ -163,17 +163,19 @@ impl<'a, B: HubLedger, T: Ledger> Scene<'a, B, T> {
             let client = self.clients.get_mut(number).expect(rt, "a client");
             let request = client.machine.next_request().ok().expect(rt, "memory");
             if let Some(request) = request {
-                self.desk.ask(number as u64, request).expect(rt, "memory");
+                self.desk
+                    .ask(Asker::Session(number as u64), request)
+                    .expect(rt, "memory");
             }
         }
     }
 
     /// Gives an answer to the session that asked.
     fn give(&mut self, rt: &impl Abort, answer: Answer) {
-        let client = self
-            .clients
-            .get_mut(answer.asker as usize)
-            .expect(rt, "a client");
+        let Asker::Session(number) = answer.asker else {
+            panic!(rt; "no session asked");
+        };
+        let client = self.clients.get_mut(number as usize).expect(rt, "a client");
         if !client.is_there {
             return;
         }

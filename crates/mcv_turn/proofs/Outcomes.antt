@@ -1,0 +1,35 @@
+-- What a request is answered, by the calls that were begun for its keys and the replies that were taken.
+use Rattle.std.proofs.Common.{◌≡◌, ◌∙◌, ℕ, List, Option, None, Some, Err, inl, inr, ap, arith, length, map, subst, sym}
+use Rattle.std.specs.Prelude.{IfSome}
+use Rattle.std.proofs.lemmas.List.{length-map}
+use Rattle.mcv_base.specs.declared.request.CallId.{CallId}
+use Rattle.mcv_core.specs.CoreView.{CoreView}
+use Rattle.mcv_core.specs.declared.fault.CoreFault.{CoreFault}
+use Rattle.mcv_core.specs.declared.fault.CoreFault.TheVariants.{NoSuchCall}
+use Rattle.mcv_hub.specs.declared.seat.TakenReply.{TakenReply}
+use Rattle.mcv_text.specs.Request.{RequestValue}
+use Rattle.mcv_turn.specs.Answers.{AreTaken, HasMissing, IsUnanswered, WasRefused}
+use Rattle.mcv_turn.specs.Question.{IsCause, for_others, has_none, unbegun}
+use Rattle.mcv_turn.proofs.Books.{unanswered}
+use Rattle.mcv_turn.proofs.Taken.{all_taken}
+
+module _ (start : CoreView) (request : RequestValue) (calls : List CallId) (taken : List TakenReply) (done : ℕ) where
+  -- each call has its reply
+  pub of_calls : done ≡ length calls → AreTaken start calls done None taken → map (λ t. t.receipt.call) taken ≡ calls
+  of_calls all h = all_taken start calls done taken (omega (arith, all)) h
+
+  pub as_many : done ≡ length calls → AreTaken start calls done None taken → length taken ≡ length calls
+  as_many all h = sym (length-map taken (λ t. t.receipt.call)) ∙ ap length (of_calls all h)
+
+  -- why there is no answer
+  pub no_answer : (missed refused : Option CoreFault) (fault : CoreFault) → done ≡ length calls → AreTaken start calls done missed taken → IfSome refused (WasRefused start request (length calls))
+      → IsCause start.routes request taken missed refused fault → IsUnanswered start request calls taken fault
+  no_answer missed refused fault all h was (has_none e) =
+      let stranger : fault ≡ NoSuchCall = subst (λ m. IfSome m (λ f. f ≡ NoSuchCall)) e h.stranger in
+      let missing : HasMissing start calls = subst (λ m. IfSome m (λ f. HasMissing start calls)) e h.missing in
+      subst (IsUnanswered start request calls taken) (sym stranger) (inl missing)
+  no_answer missed refused fault all h was (for_others none is not) = subst (IsUnanswered start request calls taken) (sym is) (inr not)
+  no_answer missed refused fault all h was (unbegun none are e) =
+      let taken_all : AreTaken start calls done None taken = subst (λ m. AreTaken start calls done m taken) none h in
+      let refusal : WasRefused start request (length calls) fault = subst (λ m. IfSome m (WasRefused start request (length calls))) e was in
+      unanswered start request calls taken (Err fault) are (as_many all taken_all) refusal
