@@ -122,7 +122,7 @@ fn server_dies<B: HubLedger, T: Ledger, R: AllocGlobal + Abort + Wait>(
     }
     scene.check_told(rt, 0, b"SERVER_ERROR destination failed\r\n");
     scene.check_told(rt, 1, b"SERVER_ERROR destination failed\r\n");
-    scene.check_told(rt, 2, b"END\r\n");
+    scene.check_told(rt, 2, b"SERVER_ERROR destination failed\r\n");
     scene.check_books(rt, 3);
 }
 
@@ -226,11 +226,17 @@ fn marked_server<B: HubLedger, T: Ledger, R: AllocGlobal + Abort + Wait>(
     assert!(rt; scene.desk.is_marked(ServerId(0)), "it isn't marked");
     scene.send(rt, 0, b"get a\r\n");
     scene.round(rt);
-    scene.check_told(rt, 0, b"END\r\nEND\r\nEND\r\nEND\r\n");
+    let mut wanted = Vec::new(rt.alloc());
+    for _failure in 0..4 {
+        let line = b"SERVER_ERROR destination failed\r\n";
+        wanted.extend_from_slice(line).expect(rt, "memory");
+    }
+    scene.check_told(rt, 0, wanted.as_slice());
     scene.answers_probe(rt, ServerId(0));
     scene.send(rt, 0, b"get a\r\n");
     scene.settle(rt, 5);
-    scene.check_told(rt, 0, b"END\r\nEND\r\nEND\r\nEND\r\nEND\r\n");
+    wanted.extend_from_slice(b"END\r\n").expect(rt, "memory");
+    scene.check_told(rt, 0, wanted.as_slice());
     scene.check_asked(rt, 0, "get a\n");
     scene.check_books(rt, 5);
 }

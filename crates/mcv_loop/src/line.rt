@@ -1,0 +1,210 @@
+//! A connection of a loop to a server, for the legs of one hub.
+
+use mcv_base::ServerId;
+use mcv_outgoing::Outgoing;
+use mcv_pipeline::Landed;
+use mcv_reply::ProbeReader;
+use mcv_turn::{Arrival, Flight};
+use mcv_upstream::Upstream;
+use std::alloc::{AllocError, Global};
+use std::collections::VecDeque;
+use std::time::Instant;
+
+/// How a connection to a server stands.
+#[derive(Drop)]
+enum State {
+    Closed,
+    /// Legs are sent over it. Of each in flight, the oldest first, when it was sent.
+    Open {
+        upstream: Upstream,
+        sent: VecDeque<Option<Instant>>,
+    },
+    /// The server, which is marked, is asked whether it answers.
+    Probing {
+        reader: ProbeReader,
+        output: Outgoing,
+        since: Option<Instant>,
+    },
+}
+
+/// A connection to a server.
+#[derive(Drop)]
+pub(crate) struct Line {
+    alloc: Global,
+    server: ServerId,
+    state: State,
+    /// Nothing is written before it is ready.
+    pub(crate) is_full: bool,
+    /// Bytes are to be written.
+    pub(crate) is_due: bool,
+}
+
+/// What came of bytes that a server said.
+#[derive(Clone, Copy)]
+pub(crate) enum Heard {
+    /// The connection goes on.
+    Goes,
+    /// It is to be closed.
+    Faulty,
+    /// The server answered a probe.
+    Answers,
+}
+
+impl Line {
+    /// No connection.
+    pub(crate) fn new(alloc: Global, server: ServerId) -> Line {
+        Line {
+            alloc,
+            server,
+            state: State::Closed,
+            is_full: false,
+            is_due: false,
+        }
+    }
+
+    /// Whether there is no connection.
+    pub(crate) fn is_closed(&self) -> bool {
+        matches!(self.state, State::Closed)
+    }
+
+    /// Whether legs can be sent.
+    pub(crate) fn is_open(&self) -> bool {
+        matches!(self.state, State::Open { .. })
+    }
+
+    /// A connection was begun.
+    pub(crate) fn open(&mut self) {
+        self.is_full = false;
+        self.state = State::Open {
+            upstream: Upstream::new(self.alloc),
+            sent: VecDeque::new(self.alloc),
+        };
+    }
+
+    /// A connection was begun, over which the server is asked whether it answers.
+    pub(crate) fn probe(&mut self, now: Option<Instant>) -> Result<(), AllocError> {
+        let mut output = Outgoing::new(self.alloc);
+        output.push(b"version\r\n")?;
+        self.is_full = false;
+        self.is_due = true;
+        self.state = State::Probing {
+            reader: ProbeReader::new(self.alloc),
+            output,
+            since: now,
+        };
+        Ok(())
+    }
+
+    /// Sends a leg. Whether it is to be written; else it is lost.
+    pub(crate) fn send(&mut self, flight: &Flight, now: Option<Instant>) -> bool {
+        let State::Open { upstream, sent } = &mut self.state else {
+            return false;
+        };
+        if sent.push_back(now).is_err() {
+            return false;
+        }
+        if upstream.send(flight.leg, &flight.request).is_err() {
+            let _ = sent.pop_back();
+            return false;
+        }
+        self.is_due = true;
+        true
+    }
+
+    /// What is to be written.
+    pub(crate) fn output(&self) -> &[u8] {
+        match &self.state {
+            State::Closed => b"",
+            State::Open { upstream, .. } => upstream.output(),
+            State::Probing { output, .. } => output.bytes(),
+        }
+    }
+
+    /// The first bytes are written.
+    pub(crate) fn wrote(&mut self, count: usize) {
+        match &mut self.state {
+            State::Closed => {}
+            State::Open { upstream, .. } => {
+                let count = count.min(upstream.output().len());
+                upstream.wrote(count);
+            }
+            State::Probing { output, .. } => {
+                let count = count.min(output.bytes().len());
+                output.wrote(count);
+            }
+        }
+    }
+
+    /// The server said this. Legs whose replies are whole land.
+    pub(crate) fn hear(&mut self, piece: &[u8], landed: &mut Vec<Landed>) -> Heard {
+        match &mut self.state {
+            State::Closed => Heard::Faulty,
+            State::Open { upstream, sent } => {
+                let before = landed.len();
+                let fed = upstream.feed(piece, landed);
+                for _leg in before..landed.len() {
+                    let _ = sent.pop_front();
+                }
+                match fed {
+                    Ok(()) => Heard::Goes,
+                    Err(_) => Heard::Faulty,
+                }
+            }
+            State::Probing { reader, .. } => match reader.feed(piece) {
+                Ok(None) => Heard::Goes,
+                Ok(Some(_)) => Heard::Answers,
+                Err(_) => Heard::Faulty,
+            },
+        }
+    }
+
+    /// The connection is lost: the legs in flight over it, the oldest first, are put behind `arrivals`. An error is that memory ran
+    /// out: it is to be called again.
+    pub(crate) fn lose(&mut self, arrivals: &mut Vec<Arrival>) -> Result<(), AllocError> {
+        if let State::Open { upstream, .. } = &mut self.state {
+            upstream.close();
+            for _leg in 0..u64::MAX {
+                arrivals.reserve(1)?;
+                let Some(leg) = upstream.lost() else {
+                    break;
+                };
+                arrivals.push_reserved(Arrival::lost(self.server, leg));
+            }
+        }
+        self.state = State::Closed;
+        self.is_due = false;
+        Ok(())
+    }
+
+    /// How many legs are in flight.
+    pub(crate) fn in_flight(&self) -> usize {
+        match &self.state {
+            State::Open { upstream, .. } => upstream.in_flight(),
+            State::Closed | State::Probing { .. } => 0,
+        }
+    }
+
+    /// Since when the server owes an answer; None where it owes none, or the clock couldn't be read.
+    pub(crate) fn since(&self) -> Option<Instant> {
+        match &self.state {
+            State::Closed => None,
+            State::Open { sent, .. } => *sent.front()?,
+            State::Probing { since, .. } => *since,
+        }
+    }
+}
+
+/// Legs that landed, as they are reported.
+pub(crate) fn arrive(
+    alloc: Global,
+    server: ServerId,
+    landed: Vec<Landed>,
+    arrivals: &mut Vec<Arrival>,
+) -> Result<(), AllocError> {
+    arrivals.reserve(landed.len())?;
+    for came in landed {
+        let Landed { leg, reply } = came;
+        arrivals.push(Arrival::landed(alloc, server, leg, reply))?;
+    }
+    Ok(())
+}
