@@ -1,9 +1,9 @@
 -- Replies that were taken.
-use Rattle.std.proofs.Common.{◌≡◌, ◌∙◌, ◌+◌, ◌<◌, ◌≤◌, ◌++◌, ◌∷◌, [], ℕ, zero, suc, List, Option, None, Some, Result, Ok, Err, inr, ap, get_or, length, map, refl, sym, subst, take, arith}
+use Rattle.std.proofs.Common.{◌≡◌, ◌∙◌, ◌+◌, ◌<◌, ◌≤◌, ◌++◌, ◌∷◌, [], ℕ, List, Option, None, Some, Result, Ok, Err, ap, get_or, length, length-append, map, refl, sym, subst, take, arith}
 use Rattle.std.specs.Prelude.{IfErr, IfOk, IfSome}
 use Rattle.std.specs.List.{All}
-use Rattle.std.proofs.lemmas.List.{length-map, length_push, map_push, take_more, take_all}
-use Rattle.std.proofs.lemmas.List.Elements.{All-head, All-nil, All-push, Contains-get_or}
+use Rattle.std.proofs.lemmas.List.{length_push, map_push, take-append-le, take_more, take_all}
+use Rattle.std.proofs.lemmas.List.Elements.{All-nil, All-push, Contains-append_left, Contains-get_or}
 use Rattle.mcv_base.specs.Reply.{part_value}
 use Rattle.mcv_base.specs.declared.request.CallId.{CallId}
 use Rattle.mcv_core.specs.CoreView.{CoreView}
@@ -13,7 +13,7 @@ use Rattle.mcv_core.specs.declared.fault.CoreFault.TheVariants.{NoSuchCall}
 use Rattle.mcv_hub.specs.Events.{IsReceived}
 use Rattle.mcv_hub.specs.State.{HistoryKeepsDeletes, HubView, IsCallOf, IsOf, Replies}
 use Rattle.mcv_hub.specs.declared.seat.TakenReply.{TakenReply}
-use Rattle.mcv_turn.specs.Answers.{AreTaken, WasMissing, WasTaken}
+use Rattle.mcv_turn.specs.Answers.{AreTaken, HasMissing, WasMissing, WasTaken}
 
 -- by what the hub says of a reply that it hands out
 was_taken : (start : CoreView) (v : HubView) (call : CallId) (t : TakenReply) → IsOf start v → HistoryKeepsDeletes (core_view v.core) v.history → IsReceived v call t → WasTaken start t
@@ -76,3 +76,21 @@ one_missed start calls done missed d fault taken within is was h =
 -- all are
 pub all_taken : (start : CoreView) (calls : List CallId) (done : ℕ) (taken : List TakenReply) → length calls ≤ done → AreTaken start calls done None taken → map (λ t. t.receipt.call) taken ≡ calls
 all_taken start calls done taken all h = h.all refl ∙ take_all done calls all
+
+-- ---- further calls
+
+module _ (start : CoreView) (calls more : List CallId) where
+  still_missing : (missed : Option CoreFault) → IfSome missed (λ fault. HasMissing start calls) → IfSome missed (λ fault. HasMissing start (calls ++ more))
+  still_missing None h = tt
+  still_missing (Some fault) h = record { call = h.call; one = Contains-append_left calls more h.call h.one; was = h.was }
+
+  -- they change nothing of those before
+  pub taken_before : (done : ℕ) (missed : Option CoreFault) (taken : List TakenReply) → AreTaken start calls done missed taken → AreTaken start (calls ++ more) done missed taken
+  taken_before done missed taken h = record {
+    within = omega (arith, length-append calls more, h.within);
+    most = h.most;
+    each = h.each;
+    all = λ m. h.all m ∙ sym (take-append-le done calls more h.within);
+    stranger = h.stranger;
+    missing = still_missing missed h.missing;
+  }

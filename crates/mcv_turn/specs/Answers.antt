@@ -177,6 +177,12 @@ pub record IsFaultOf (opened : CoreView) (request : RequestValue) (calls : List 
 abbrev pub with_receipt : List Receipt → TakenReply → List Receipt
 with_receipt receipts t = filter (λ r. nat_le t.receipt.chapter r.chapter) receipts ++ t.receipt ∷ []
 
+-- further replies were taken, and their receipts are kept
+pub record KeepsMore (old new : List Receipt) (before after : List TakenReply) : Type 0 where
+  pub more : List TakenReply
+  pub are : after ≡ before ++ more
+  pub kept : new ≡ fold with_receipt old more
+
 -- how the desk of the hub that was opened so answers a request: calls were begun for its keys, replies taken of the hub, and it answers by
 -- these, one of each call, or why not
 pub record IsAnswer (opened : CoreView) (request : RequestValue) (answer : Result (List ReplyValue) DeskFault) : Type 0 where

@@ -1,6 +1,6 @@
 //! A request at a hub, from its first call to its last reply.
 
-ghost use Rattle.std.specs.Prelude.{◌≡◌, [], true, None, IfNone, IfOk, IfSome};
+ghost use Rattle.std.specs.Prelude.{◌≡◌, ◌≤◌, [], true, None, IfNone, IfOk, IfSome};
 ghost use Rattle.std.specs.Arc.{arc_value};
 ghost use Rattle.mcv_session.specs.Desk.{answer_value};
 ghost use Rattle.mcv_text.specs.Request.{request_value};
@@ -56,7 +56,9 @@ impl<B: HubLedger> Model for Question<B> {
 }
 
 /// Up to which key calls are begun, where so many of them are there and so many of those are done with.
-fn next_limit(count: usize, done: usize) -> usize {
+fn next_limit(count: usize, done: usize) -> usize
+    ensures { result ≤ count }
+{
     count.min(done.saturating_add(MOST_RUNNING))
 }
 

@@ -1,7 +1,7 @@
 //! Replies to calls are taken.
 
 ghost use Rattle.std.specs.Prelude.{◌≡◌, ◌+◌, ◌≤◌, [], length, vec_len, vec_capacity, IfErr, IfNone, IfOk, IfSome, OnErr};
-ghost use Rattle.mcv_turn.specs.Answers.{AreTaken, WasMissing, WasTaken};
+ghost use Rattle.mcv_turn.specs.Answers.{AreTaken, KeepsMore, WasMissing, WasTaken};
 ghost use Rattle.mcv_turn.specs.Runs.{Runs};
 
 use crate::kept::Kept;
@@ -62,6 +62,7 @@ pub(crate) fn take_ready<B: HubLedger, T: Ledger>(
     ensures runs { Runs guard.old [] [] guard.new }
     ensures so_far { AreTaken B.opened calls.now result.progress.done result.progress.missed taken.new.items }
     ensures on { progress.done ≤ result.progress.done }
+    ensures kept { KeepsMore kept.old.receipts.items kept.new.receipts.items taken.old.items taken.new.items }
     ensures room { vec_capacity taken.new ≡ vec_capacity taken.old }
     ensures counted { seat.new.taken.amount + vec_len taken.old ≡ seat.old.taken.amount + vec_len taken.new }
     ensures begun { seat.new.begun.amount ≡ seat.old.begun.amount }

@@ -1,7 +1,11 @@
 use Rattle.mcv_hub.proofs.Books.{refused_counts, taken_begins, taken_counts, untaken_counts}
 use Rattle.mcv_turn.proofs.Books.{missing_call, no_call}
 use Rattle.mcv_turn.proofs.Taken.{found_call, found_was_taken}
+use Rattle.mcv_turn.specs.Runs.{taken}
 use Rattle.mcv_turn.proofs.take.take_one.Goals as goal
+
+pub returns-clause-runs : goal.returns-clause-runs
+returns-clause-runs g c = taken c.args.guard.now c.take_reply.new.self c.args.call c.take_reply.result c.take_reply.ensures.event
 
 pub returns-clause-taken : goal.returns-clause-taken
 returns-clause-taken g c = found_was_taken g.B.HubLedger.opened c.args.guard.now c.args.call c.take_reply.result c.is_opened.ensures c.deletes_are_kept.ensures c.take_reply.ensures.receipt
