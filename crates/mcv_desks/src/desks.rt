@@ -210,6 +210,20 @@ impl<'a, F: HubNames, G: Names> LoopDesks<'a, F, G> {
         }
     }
 
+    /// Whether requests were asked at the hub of this number since its last turn.
+    pub fn is_asked(&self, hub: usize) -> bool {
+        match hub {
+            0 => self.desk0.is_asked(),
+            1 => self.desk1.is_asked(),
+            2 => self.desk2.is_asked(),
+            3 => self.desk3.is_asked(),
+            4 => self.desk4.is_asked(),
+            5 => self.desk5.is_asked(),
+            6 => self.desk6.is_asked(),
+            _ => self.desk7.is_asked(),
+        }
+    }
+
     /// Whether requests wait to begin at the hub of this number.
     pub fn waits(&self, hub: usize) -> bool {
         match hub {

@@ -16,6 +16,8 @@ pub(crate) struct Client {
     pub(crate) machine: Machine,
     /// A request is out.
     is_asking: bool,
+    /// It sends no more.
+    pub(crate) is_at_end: bool,
     /// Bytes may be there that weren't read.
     pub(crate) is_unread: bool,
     /// Nothing is written before it is ready.
@@ -30,6 +32,7 @@ impl Client {
         Client {
             machine: Machine::new(alloc),
             is_asking: false,
+            is_at_end: false,
             is_unread: true,
             is_full: false,
             since: now,
@@ -39,13 +42,14 @@ impl Client {
     /// Whether its bytes are read: nothing of what was read waits, no request is out, and it takes what it is told.
     pub(crate) fn reads(&self) -> bool {
         self.machine.phase() == Phase::Open
+            && !self.is_at_end
             && !self.is_asking
             && self.machine.output().len() < MOST_OUTPUT
     }
 
-    /// Whether its connection is to be closed: its session has ended, and all is written.
+    /// Whether its connection is to be closed: its session or its bytes have ended, and all is written.
     pub(crate) fn is_over(&self) -> bool {
-        self.machine.phase() != Phase::Open && self.machine.output().is_empty()
+        (self.is_at_end || self.machine.phase() != Phase::Open) && self.machine.output().is_empty()
     }
 
     /// A request is out, or answered.

@@ -322,6 +322,17 @@ impl<'a, F: HubNames, G: Names, S: Sources> Loop<'a, F, G, S> {
         self.ticked = self.now;
         self.expire_clients();
         self.probe_marked();
+        self.want_turns();
+    }
+
+    /// Makes a turn where requests wait to begin, or the spool, which refused a record, may be asked again.
+    fn want_turns(&mut self) {
+        for hub in 0..self.posts.len() {
+            let waits = self.desks.waits(hub);
+            if let Some(post) = self.posts.get_mut(hub) {
+                post.is_wanted = waits || post.refused_until.is_some();
+            }
+        }
     }
 
     /// Closes connections on which a reply didn't come in its time.
@@ -427,9 +438,6 @@ impl<'a, F: HubNames, G: Names, S: Sources> Loop<'a, F, G, S> {
             };
             client.note_asking(true);
             if self.desks.ask(number, request).is_ok() {
-                for post in self.posts.iter_mut() {
-                    post.is_asked = true;
-                }
                 return false;
             }
             client.note_asking(false);
@@ -452,7 +460,9 @@ impl<'a, F: HubNames, G: Names, S: Sources> Loop<'a, F, G, S> {
                 false
             }
             Took::Over => {
-                self.drop_client(number);
+                if let Some(client) = self.clients.get_mut(&number) {
+                    client.is_at_end = true;
+                }
                 false
             }
             Took::Bytes(count) => {
@@ -501,7 +511,7 @@ impl<'a, F: HubNames, G: Names, S: Sources> Loop<'a, F, G, S> {
                 Some(post) => post.is_due(),
                 None => false,
             };
-            if is_due {
+            if is_due || self.desks.is_asked(hub) {
                 self.turn(rt, hub);
                 was_due = true;
             }

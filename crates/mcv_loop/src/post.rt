@@ -12,8 +12,8 @@ pub(crate) struct Post {
     pub(crate) arrivals: Vec<Arrival>,
     pub(crate) answering: Vec<ServerId>,
     pub(crate) stored: Option<StoredLeg>,
-    /// Requests were asked there.
-    pub(crate) is_asked: bool,
+    /// A turn is to be made, whatever came.
+    pub(crate) is_wanted: bool,
     /// Until when the spool isn't asked.
     pub(crate) refused_until: Option<Instant>,
     /// Since when requests have waited to begin.
@@ -27,7 +27,7 @@ impl Post {
             arrivals: Vec::new(alloc),
             answering: Vec::new(alloc),
             stored: None,
-            is_asked: false,
+            is_wanted: false,
             refused_until: None,
             waits_since: None,
         }
@@ -35,7 +35,7 @@ impl Post {
 
     /// Whether a turn is to be made.
     pub(crate) fn is_due(&self) -> bool {
-        self.is_asked
+        self.is_wanted
             || self.stored.is_some()
             || !self.arrivals.is_empty()
             || !self.answering.is_empty()
@@ -49,7 +49,7 @@ impl Post {
         may_store: bool,
         waited: bool,
     ) -> Came {
-        self.is_asked = false;
+        self.is_wanted = false;
         let mut came = Came::at(alloc, moment);
         came.arrivals = mem::replace(&mut self.arrivals, Vec::new(alloc));
         came.answering = mem::replace(&mut self.answering, Vec::new(alloc));

@@ -51,6 +51,8 @@ pub struct LoopDesk<'a, B: HubLedger, T: Ledger> {
     servers: Servers,
     /// All legs of smaller numbers were noted at their servers.
     first: u64,
+    /// Requests were asked since the last turn.
+    is_asked: bool,
     /// A record is being written.
     is_storing: bool,
     /// For want of memory a question isn't noted where it should be: all are to be looked at.
@@ -80,6 +82,7 @@ impl<'a, B: HubLedger, T: Ledger> LoopDesk<'a, B, T> {
             done: VecDeque::new(alloc),
             servers,
             first: 0,
+            is_asked: false,
             is_storing: false,
             overlooks: false,
         })
@@ -91,6 +94,7 @@ impl<'a, B: HubLedger, T: Ledger> LoopDesk<'a, B, T> {
         self.awaited.reserve(1)?;
         self.entering.reserve(1)?;
         let number = self.questions.insert(question)?;
+        self.is_asked = true;
         if self.entering.push_back(number).is_err() {
             self.overlooks = true;
         }
@@ -113,6 +117,11 @@ impl<'a, B: HubLedger, T: Ledger> LoopDesk<'a, B, T> {
     /// How many requests are open: asked, and not answered yet.
     pub fn open(&self) -> usize {
         self.questions.len()
+    }
+
+    /// Whether requests were asked since the last turn.
+    pub fn is_asked(&self) -> bool {
+        self.is_asked
     }
 
     /// Whether requests wait to begin.
@@ -145,6 +154,7 @@ impl<'a, B: HubLedger, T: Ledger> LoopDesk<'a, B, T> {
             may_store,
             waited,
         } = came;
+        self.is_asked = false;
         self.note_all(guard, moment, answering.as_slice(), arrivals, stored);
         self.go_round(guard, may_store, waited, gives);
     }

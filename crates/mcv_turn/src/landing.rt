@@ -1,12 +1,12 @@
 //! Legs in flight that were answered or lost.
 
 ghost use Rattle.std.specs.Prelude.{◌≡◌};
-ghost use Rattle.mcv_turn.specs.Steps.{IsLoss, IsReported};
+ghost use Rattle.mcv_turn.specs.Steps.{IsLanding, IsLoss, IsReported};
 
 use crate::arrival::Arrival;
 use mcv_base::{CallId, LegId, ServerId};
 use mcv_core::{CoreFault, Dispatcher, Step};
-use mcv_hub::{Guard, HubLedger};
+use mcv_hub::{Guard, HubLedger, LegReply};
 use std::sync::ledger::Ledger;
 
 /// The call of a leg, while it is there.
@@ -31,17 +31,25 @@ pub(crate) fn lose<B: HubLedger, T: Ledger>(
     }
 }
 
+/// A leg in flight was answered, or lost.
+fn land<B: HubLedger, T: Ledger>(
+    guard: &mut Guard<'_, B, T>,
+    server: ServerId,
+    leg: LegId,
+    reply: Option<LegReply>,
+) -> Result<Step, CoreFault>
+    ensures { IsLanding server leg reply guard.old guard.new result }
+{
+    match reply {
+        Some(reply) => guard.answered(leg, reply),
+        None => lose(guard, server, leg),
+    }
+}
+
 /// What became of a leg in flight is reported.
 pub(crate) fn report<B: HubLedger, T: Ledger>(guard: &mut Guard<'_, B, T>, arrival: Arrival)
     ensures { IsReported arrival.server arrival.leg arrival.reply guard.old guard.new }
 {
     let Arrival { server, leg, reply } = arrival;
-    match reply {
-        Some(reply) => {
-            let _ = guard.answered(leg, reply);
-        }
-        None => {
-            let _ = lose(guard, server, leg);
-        }
-    }
+    let _ = land(guard, server, leg, reply);
 }
