@@ -1,8 +1,18 @@
 -- Runs of events, one after the other.
-use Rattle.std.proofs.Common.{◌≡◌, ◌∙◌, ◌++◌, ◌∷◌, [], List, refl, sym, ap, subst, append-nil, append_assoc}
+use Rattle.std.proofs.Common.{◌≡◌, ◌∙◌, ◌++◌, ◌∷◌, [], List, Result, Ok, Err, sym, ap, subst, append-nil, append_assoc}
+use Rattle.std.specs.Prelude.{IfOk, OnErr}
+use Rattle.mcv_base.specs.declared.request.LegId.{LegId}
+use Rattle.mcv_base.specs.declared.request.ServerId.{ServerId}
+use Rattle.mcv_core.specs.Events.{IsRefusedLeg, IsSpooledLeg}
+use Rattle.mcv_core.specs.View.{core_view}
+use Rattle.mcv_core.specs.declared.fault.CoreFault.{CoreFault}
+use Rattle.mcv_core.specs.declared.step.Step.{Step}
+use Rattle.mcv_hub.specs.Events.{IsHubEvent}
 use Rattle.mcv_hub.specs.State.{HubView}
-use Rattle.mcv_turn.specs.Runs.{IsTurn, Runs, SendsMore, joined, nothing, reported, sent}
-use Rattle.mcv_turn.specs.Steps.{IsReported, IsSent}
+use Rattle.mcv_spool.specs.declared.fault.SpoolFault.{SpoolFault}
+use Rattle.mcv_spool.specs.declared.record.Stored.{Stored}
+use Rattle.mcv_turn.specs.Runs.{IsTurn, Runs, SendsMore, joined, nothing, refused, sent, stored}
+use Rattle.mcv_turn.specs.Steps.{IsSent}
 use Rattle.mcv_turn.specs.declared.arrival.Arrival.{Arrival}
 use Rattle.mcv_turn.specs.declared.flight.Flight.{Flight}
 
@@ -29,9 +39,9 @@ module _ (old mid new : HubView) where
 pub none_sent : (v : HubView) (before : List Flight) → SendsMore v v before before
 none_sent v before = record { more = []; are = sym (append-nil before); run = nothing v }
 
-pub one_sent : (old mid new : HubView) (before now after : List Flight) (f : Flight) → SendsMore old mid before now → IsSent f.server f mid new → after ≡ now ++ f ∷ [] → SendsMore old new before after
-one_sent old mid new before now after f h s e =
-    record { more = h.more ++ f ∷ []; are = e ∙ ap (λ t. t ++ f ∷ []) h.are ∙ append_assoc before h.more (f ∷ []); run = joined old mid new [] [] h.more (f ∷ []) h.run (sent mid new f s) }
+pub one_sent : (old mid new : HubView) (before now after : List Flight) (server : ServerId) (f : Flight) → SendsMore old mid before now → IsSent server f mid new → after ≡ now ++ f ∷ [] → SendsMore old new before after
+one_sent old mid new before now after server f h s e =
+    record { more = h.more ++ f ∷ []; are = e ∙ ap (λ t. t ++ f ∷ []) h.are ∙ append_assoc before h.more (f ∷ []); run = joined old mid new [] [] h.more (f ∷ []) h.run (sent mid new server f s) }
 
 pub sent_then_quiet : (old mid new : HubView) (before after : List Flight) → SendsMore old mid before after → Runs mid [] [] new → SendsMore old new before after
 sent_then_quiet old mid new before after h k = record { more = h.more; are = h.are; run = then_quiet old mid new [] h.more h.run k }
@@ -48,3 +58,8 @@ pub turned : (old mid new : HubView) (arrivals : List Arrival) (before after : L
 turned old mid new arrivals before after h k =
     let P : List Arrival → Type 0 = λ xs. Runs old xs k.more new in
     record { more = k.more; are = k.are; run = subst P (append-nil arrivals) (joined old mid new arrivals [] [] k.more h k.run) }
+
+-- what the spool answered
+pub settled : (old new : HubView) (leg : LegId) (outcome : Result Stored SpoolFault) (r : Result Step CoreFault) → IfOk outcome (λ s. IsHubEvent (IsSpooledLeg (core_view old.core) leg s r) old new) → OnErr outcome (IsHubEvent (IsRefusedLeg (core_view old.core) leg r) old new) → Runs old [] [] new
+settled old new leg (Ok s) r h k = stored old new leg s r h
+settled old new leg (Err fault) r h k = refused old new leg r k

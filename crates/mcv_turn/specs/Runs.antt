@@ -31,7 +31,7 @@ pub data Runs : HubView → List Arrival → List Flight → HubView → Type 0 
   refused : (old new : HubView) (leg : LegId) (r : Result Step CoreFault) → IsHubEvent (IsRefusedLeg (core_view old.core) leg r) old new → Runs old [] [] new
   entered : (old new : HubView) (gate : Gate) → IsGate old gate new → Runs old [] [] new
   begun : (old new : HubView) (request : Request) (key : ℕ) (r : Result CallId CoreFault) → Begins old request key r new → Runs old [] [] new
-  sent : (old new : HubView) (f : Flight) → IsSent f.server f old new → Runs old [] (f ∷ []) new
+  sent : (old new : HubView) (server : ServerId) (f : Flight) → IsSent server f old new → Runs old [] (f ∷ []) new
   given_up : (old new : HubView) (server : ServerId) (leg : LegId) → IsGivenUp server leg old new → Runs old [] [] new
   unsent : (old new : HubView) (server : ServerId) (fault : CoreFault) → IsHubEvent (IsNext (core_view old.core) server (Err fault)) old new → Runs old [] [] new
   taken : (old new : HubView) (call : CallId) (r : Result (Option TakenReply) CoreFault) → IsHubEvent (IsTaken (core_view old.core) call (taken_part r)) old new → Runs old [] [] new

@@ -189,14 +189,22 @@ impl<'a, B: HubLedger, T: Ledger> LoopDesk<'a, B, T> {
         ensures { SendsMore guard.old guard.new gives.old.flights.items gives.new.flights.items }
     {
         for _round in 0..TURNS {
-            let is_closed = self.enter(guard, waited, &mut gives.past);
+            let is_open = self.open_gate(guard, waited, &mut gives.past);
+            if is_open {
+                self.enter(guard);
+            }
             self.send_all(guard, &mut gives.flights);
             self.hold(guard, may_store, &mut gives.held);
             self.take_all(guard);
-            if self.entering.is_empty() || is_closed && !guard.core().is_at_rest() {
+            if self.is_over(guard.core(), is_open) {
                 return;
             }
         }
+    }
+
+    /// Whether nothing is to be done before something comes: no request waits to begin, or they may not, and what runs will end.
+    fn is_over(&self, core: &Dispatcher, is_open: bool) -> bool {
+        self.entering.is_empty() || !is_open && !core.is_at_rest()
     }
 
     /// Takes the marks of servers away that answer again.
@@ -264,24 +272,31 @@ impl<'a, B: HubLedger, T: Ledger> LoopDesk<'a, B, T> {
         }
     }
 
-    /// Begins calls for the keys of questions that enter, unless the next chapter is due and can't begin yet. Whether that keeps them
-    /// out.
-    fn enter(&mut self, guard: &mut Guard<'_, B, T>, waited: bool, past: &mut Option<Past>) -> bool
+    /// Whether calls may begin: unless the next chapter is due and can't begin yet. Where it can it begins, and what is left of the old
+    /// one is given out.
+    fn open_gate(&self, guard: &mut Guard<'_, B, T>, waited: bool, past: &mut Option<Past>) -> bool
         ensures { Runs guard.old [] [] guard.new }
     {
         match guard.gate(self.alloc) {
-            Gate::Open => {}
-            Gate::Turned(old) => *past = Some(old),
-            Gate::Closed if waited => {}
-            Gate::Closed => return true,
+            Gate::Open => true,
+            Gate::Turned(old) => {
+                *past = Some(old);
+                true
+            }
+            Gate::Closed => waited,
         }
+    }
+
+    /// Begins calls for the keys of questions that enter.
+    fn enter(&mut self, guard: &mut Guard<'_, B, T>)
+        ensures { Runs guard.old [] [] guard.new }
+    {
         for _question in 0..self.entering.len() {
             let Some(number) = self.entering.pop_front() else {
                 break;
             };
             self.begin(guard, number);
         }
-        false
     }
 
     /// Begins calls for keys of a question.
@@ -331,14 +346,28 @@ impl<'a, B: HubLedger, T: Ledger> LoopDesk<'a, B, T> {
     {
         let mut was_due = false;
         for number in 0..self.servers.count() {
-            if !self.servers.take_due(number) {
-                continue;
-            }
-            if let Ok(number) = u32::try_from(number) {
-                was_due |= self.send_to(guard, ServerId(number), flights);
-            }
+            let is_due = self.send_where_due(guard, number, flights);
+            was_due = was_due || is_due;
         }
         was_due
+    }
+
+    /// Puts legs in flight to the server of this number, if it is due. Whether it was.
+    fn send_where_due(
+        &mut self,
+        guard: &mut Guard<'_, B, T>,
+        number: usize,
+        flights: &mut Vec<Flight>,
+    ) -> bool
+        ensures { SendsMore guard.old guard.new flights.old.items flights.new.items }
+    {
+        if !self.servers.take_due(number) {
+            return false;
+        }
+        let Ok(number) = u32::try_from(number) else {
+            return false;
+        };
+        self.send_to(guard, ServerId(number), flights)
     }
 
     /// Puts legs in flight to a server until none waits, or as many are in flight as may be. Whether it was looked at; without memory
