@@ -40,8 +40,8 @@ pub(crate) struct Memory {
     pub(crate) clients: Vec<Client>,
     pub(crate) wires: Vec<Wire>,
     spool: Spool<MemoryDisk>,
-    /// What the spool answered, and wasn't given yet.
-    stored: Option<(usize, StoredLeg)>,
+    /// What the spool answered, each with its hub, and wasn't given yet.
+    stored: Vec<(usize, StoredLeg)>,
     /// How many bytes are read at most at a time.
     pub(crate) cut: usize,
 }
@@ -53,7 +53,7 @@ impl Memory {
             clients: Vec::new(alloc),
             wires: Vec::new(alloc),
             spool: Spool::open(alloc, MemoryDisk::new(alloc)).ok()?,
-            stored: None,
+            stored: Vec::new(alloc),
             cut: 1_000,
         })
     }
@@ -132,7 +132,7 @@ impl Sources for Memory {
         _most: Option<Duration>,
         ready: &mut Vec<Ready>,
     ) -> Result<(), SourceFault> {
-        if let Some((hub, stored)) = self.stored.take() {
+        while let Some((hub, stored)) = self.stored.pop() {
             if ready.push(Ready::Stored { hub, stored }).is_err() {
                 return Err(SourceFault::Memory);
             }
@@ -226,8 +226,7 @@ impl Sources for Memory {
     fn store(&mut self, _pass: &Pass, hub: usize, held: HeldLeg) -> bool {
         let HeldLeg { leg, delete } = held;
         let outcome = self.spool.append(delete);
-        self.stored = Some((hub, StoredLeg { leg, outcome }));
-        true
+        self.stored.push((hub, StoredLeg { leg, outcome })).is_ok()
     }
 
     fn moment(&mut self) -> Moment {

@@ -1,7 +1,9 @@
 //! The desk of a loop at one hub.
 
-ghost use Rattle.std.specs.Prelude.{[], ◌∷◌, IfSome};
+ghost use Rattle.std.specs.Prelude.{◌≡◌, ◌||◌, [], ◌∷◌, IfSome, not};
 ghost use Rattle.std.specs.Arc.{arc_value};
+ghost use Rattle.mcv_hub.specs.Gate.{IsGate, is_closed};
+ghost use Rattle.mcv_hub.specs.declared.gate.Gate.{Gate as HubGate};
 ghost use Rattle.mcv_session.specs.Desk.{answer_value};
 ghost use Rattle.mcv_text.specs.Request.{request_value};
 ghost use Rattle.mcv_turn.specs.Answers.{IsAnswer};
@@ -275,7 +277,7 @@ impl<'a, B: HubLedger, T: Ledger> LoopDesk<'a, B, T> {
     /// Whether calls may begin: unless the next chapter is due and can't begin yet. Where it can it begins, and what is left of the old
     /// one is given out.
     fn open_gate(&self, guard: &mut Guard<'_, B, T>, waited: bool, past: &mut Option<Past>) -> bool
-        ensures { Runs guard.old [] [] guard.new }
+        ensures { (gate : HubGate) × IsGate guard.old gate guard.new × (result ≡ (not (is_closed gate) || waited)) }
     {
         match guard.gate(self.alloc) {
             Gate::Open => true,
