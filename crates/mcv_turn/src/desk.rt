@@ -1,12 +1,14 @@
 //! The desk of a loop at one hub.
 
-ghost use Rattle.std.specs.Prelude.{◌≡◌, ◌||◌, [], ◌∷◌, IfSome, not};
+ghost use Rattle.slab.specs.Slab.{get};
+ghost use Rattle.std.specs.Prelude.{◌≡◌, ◌||◌, [], ◌∷◌, true, IfSome, not};
 ghost use Rattle.std.specs.Arc.{arc_value};
 ghost use Rattle.mcv_hub.specs.Gate.{IsGate, is_closed};
 ghost use Rattle.mcv_hub.specs.declared.gate.Gate.{Gate as HubGate};
 ghost use Rattle.mcv_session.specs.Desk.{answer_value};
 ghost use Rattle.mcv_text.specs.Request.{request_value};
 ghost use Rattle.mcv_turn.specs.Answers.{IsAnswer};
+ghost use Rattle.mcv_turn.specs.Question.{IsDone};
 ghost use Rattle.mcv_turn.specs.Runs.{IsTurn, Runs, SendsMore};
 
 use crate::answer::{Answer, Asker};
@@ -107,13 +109,25 @@ impl<'a, B: HubLedger, T: Ledger> LoopDesk<'a, B, T> {
     pub fn answer(&mut self) -> Option<Answer>
         ensures { IfSome result (λ a. IsAnswer B.opened (request_value (arc_value a.request)) (answer_value a.outcome)) }
     {
-        let number = self.done.pop_front()?;
-        if !self.questions.get(number)?.is_done() {
-            self.overlooks = true;
-            return None;
+        for _question in 0..self.done.len() {
+            let number = self.done.pop_front()?;
+            if !self.is_done(number) {
+                continue;
+            }
+            let question = self.questions.try_remove(number)?;
+            return Some(question.into_answer(self.routes.get()));
         }
-        let question = self.questions.try_remove(number)?;
-        Some(question.into_answer(self.routes.get()))
+        None
+    }
+
+    /// Whether the question of this number is there and done.
+    fn is_done(&self, number: usize) -> bool
+        ensures { result ≡ true → IfSome (get self.now.questions number) IsDone }
+    {
+        match self.questions.get(number) {
+            Some(question) => question.is_done(),
+            None => false,
+        }
     }
 
     /// How many requests are open: asked, and not answered yet.

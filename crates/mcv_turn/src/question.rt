@@ -167,8 +167,13 @@ impl<B: HubLedger> Question<B> {
     pub(crate) fn is_done(&self) -> bool
         ensures { result ≡ true → IsDone self.now }
     {
-        self.progress.done == self.calls.len()
-            && (self.refused.is_some() || self.calls.len() == self.count)
+        if self.progress.done != self.calls.len() {
+            return false;
+        }
+        if self.calls.len() == self.count {
+            return true;
+        }
+        self.refused.is_some()
     }
 
     /// Its answer, once it is done.
