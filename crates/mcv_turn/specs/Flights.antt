@@ -1,22 +1,16 @@
 -- What is known of legs that a loop has in hand: what was seen under the lock (own).
-use Rattle.std.specs.Prelude.{◌≡◌, ℕ, Bool, false, List, Option, Some, Result, Ok, Err, ⊤, slice_get}
-use Rattle.mcv_base.specs.Reply.{ReplyValue, reply_value}
-use Rattle.mcv_base.specs.declared.reply.Reply.{Reply}
+use Rattle.std.specs.Prelude.{◌≡◌, ◌⊎◌, ℕ, Bool, false, List, Option, Some, Ok, slice_get}
 use Rattle.mcv_base.specs.declared.request.LegId.{LegId}
 use Rattle.mcv_base.specs.declared.request.LegRequest.{LegRequest}
 use Rattle.mcv_base.specs.declared.request.ServerId.{ServerId}
 use Rattle.mcv_events.specs.Rows.{LegRow}
-use Rattle.mcv_core.specs.Events.{IsAnsweredLeg, IsNext as IsNextOf}
+use Rattle.mcv_core.specs.Events.{IsNext as IsNextOf, IsReplay}
 use Rattle.mcv_core.specs.Readers.{IsFirstHeld}
 use Rattle.mcv_core.specs.Requests.{asked_at, asked_by}
-use Rattle.mcv_core.specs.View.{core_view, records_of}
-use Rattle.mcv_core.specs.declared.step.LegState.TheVariants.{Performed}
-use Rattle.mcv_core.specs.declared.step.Step.{Step}
+use Rattle.mcv_core.specs.View.{core_view}
 use Rattle.mcv_hub.specs.Events.{IsHubEvent}
 use Rattle.mcv_hub.specs.State.{HistoryKeepsDeletes, HubView}
 use Rattle.mcv_spool.specs.declared.record.SpoolRecord.{SpoolRecord}
-use Rattle.mcv_proxy.specs.declared.gates.LinkFault.{LinkFault}
-use Rattle.mcv_proxy.specs.declared.gates.LinkFault.TheVariants.{Broken, Memory}
 
 -- ---- which leg is sent
 
@@ -28,11 +22,15 @@ is_marked v server = ((core_view v.core).marks server.0).marked
 abbrev pub IsNext : ServerId → LegId → HubView → HubView → Type 0
 IsNext server leg old new = IsHubEvent (IsNextOf (core_view old.core) server (Ok leg)) old new
 
+-- or its first leg in the spool did, again
+abbrev pub IsReplayed : ServerId → LegId → HubView → HubView → Type 0
+IsReplayed server leg old new = IsHubEvent (IsReplay (core_view old.core) server (Ok leg)) old new
+
 -- the leg came in flight so in this state, behind one in which deletes are kept
 pub record CameInFlight (server : ServerId) (leg : LegId) (state : HubView) : Type 0 where
   pub before : HubView
   pub keeps : HistoryKeepsDeletes (core_view before.core) before.history
-  pub next : IsNext server leg before state
+  pub event : IsNext server leg before state ⊎ IsReplayed server leg before state
 
 -- the leg may be sent: it came in flight while its server wasn't marked, and this is what it asks
 pub record MayBeSent (server : ServerId) (leg : LegId) (request : LegRequest) : Type 0 where

@@ -5,7 +5,7 @@ use Rattle.mcv_base.specs.declared.request.LegId.{LegId}
 use Rattle.mcv_base.specs.declared.request.Moment.{Moment}
 use Rattle.mcv_base.specs.declared.request.Request.{Request}
 use Rattle.mcv_base.specs.declared.request.ServerId.{ServerId}
-use Rattle.mcv_core.specs.Events.{IsClocked, IsNext, IsRefusedLeg, IsSpooledLeg, IsTaken, IsUnmarked}
+use Rattle.mcv_core.specs.Events.{IsClocked, IsNext, IsRefusedLeg, IsReplay, IsSpooledLeg, IsTaken, IsUnmarked}
 use Rattle.mcv_core.specs.View.{core_view}
 use Rattle.mcv_core.specs.declared.fault.CoreFault.{CoreFault}
 use Rattle.mcv_core.specs.declared.step.Step.{Step}
@@ -16,7 +16,7 @@ use Rattle.mcv_hub.specs.State.{HubView}
 use Rattle.mcv_hub.specs.declared.gate.Gate.{Gate}
 use Rattle.mcv_hub.specs.declared.seat.TakenReply.{TakenReply}
 use Rattle.mcv_spool.specs.declared.record.Stored.{Stored}
-use Rattle.mcv_turn.specs.Steps.{Begins, IsGivenUp, IsReported, IsSent}
+use Rattle.mcv_turn.specs.Steps.{Begins, IsGivenBack, IsGivenUp, IsReported, IsSent, IsSentAgain}
 use Rattle.mcv_turn.specs.declared.arrival.Arrival.{Arrival}
 use Rattle.mcv_turn.specs.declared.flight.Flight.{Flight}
 
@@ -32,6 +32,9 @@ pub data Runs : HubView → List Arrival → List Flight → HubView → Type 0 
   entered : (old new : HubView) (gate : Gate) → IsGate old gate new → Runs old [] [] new
   begun : (old new : HubView) (request : Request) (key : ℕ) (r : Result CallId CoreFault) → Begins old request key r new → Runs old [] [] new
   sent : (old new : HubView) (server : ServerId) (f : Flight) → IsSent server f old new → Runs old [] (f ∷ []) new
+  sent_again : (old new : HubView) (server : ServerId) (f : Flight) → IsSentAgain server f old new → Runs old [] (f ∷ []) new
+  given_back : (old new : HubView) (server : ServerId) (leg : LegId) → IsGivenBack server leg old new → Runs old [] [] new
+  unspooled : (old new : HubView) (server : ServerId) (fault : CoreFault) → IsHubEvent (IsReplay (core_view old.core) server (Err fault)) old new → Runs old [] [] new
   given_up : (old new : HubView) (server : ServerId) (leg : LegId) → IsGivenUp server leg old new → Runs old [] [] new
   unsent : (old new : HubView) (server : ServerId) (fault : CoreFault) → IsHubEvent (IsNext (core_view old.core) server (Err fault)) old new → Runs old [] [] new
   taken : (old new : HubView) (call : CallId) (r : Result (Option TakenReply) CoreFault) → IsHubEvent (IsTaken (core_view old.core) call (taken_part r)) old new → Runs old [] [] new

@@ -25,6 +25,8 @@ pub struct Came {
     pub stored: Option<StoredLeg>,
     /// The spool may be asked: it hasn't refused a record a short time ago.
     pub may_store: bool,
+    /// Legs that are in the spool are to be sent again, one to each server.
+    pub replays: bool,
     /// A request has waited for the next chapter for so long that it is to begin in this one.
     pub waited: bool,
 }
@@ -38,6 +40,7 @@ impl Came {
             answering: Vec::new(alloc),
             stored: None,
             may_store: true,
+            replays: false,
             waited: false,
         }
     }
@@ -50,6 +53,8 @@ pub struct Gives {
     pub flights: Vec<Flight>,
     /// The leg whose record is to be written next.
     pub held: Option<HeldLeg>,
+    /// The numbers of records whose legs, sent again, their servers have performed.
+    pub performed: Vec<u64>,
     /// What is left of a chapter that has ended, to be dropped.
     pub past: Option<Past>,
 }
@@ -60,6 +65,7 @@ impl Gives {
         Gives {
             flights: Vec::new(alloc),
             held: None,
+            performed: Vec::new(alloc),
             past: None,
         }
     }

@@ -19,10 +19,10 @@ use crate::hub_routes::HubRoutes;
 use crate::kept::Kept;
 use crate::landing::{call_of, report};
 use crate::question::Question;
-use crate::sending::take_next;
+use crate::sending::{take_again, take_next};
 use crate::servers::Servers;
 use crate::spooling::{held_leg, is_first_refusal, settle, texts_of};
-use mcv_base::{CallId, LegId, Moment, Request, ServerId, ServerText};
+use mcv_base::{CallId, LegId, Request, ServerId, ServerText};
 use mcv_core::Dispatcher;
 use mcv_hub::{Gate, Guard, Hub, HubLedger, Past, Receipt, Seat};
 use slab::Slab;
@@ -162,35 +162,32 @@ impl<'a, B: HubLedger, T: Ledger> LoopDesk<'a, B, T> {
     pub fn turn(&mut self, guard: &mut Guard<'_, B, T>, came: Came, gives: &mut Gives)
         ensures { IsTurn guard.old guard.new came.arrivals.items gives.old.flights.items gives.new.flights.items }
     {
+        let (may_store, waited) = (came.may_store, came.waited);
+        self.is_asked = false;
+        self.note_all(guard, came, &mut gives.performed);
+        self.go_round(guard, may_store, waited, gives);
+    }
+
+    /// Reports what came.
+    fn note_all(&mut self, guard: &mut Guard<'_, B, T>, came: Came, performed: &mut Vec<u64>)
+        ensures { Runs guard.old came.arrivals.items [] guard.new }
+    {
         let Came {
             moment,
             arrivals,
             answering,
             stored,
-            may_store,
-            waited,
+            replays,
+            ..
         } = came;
-        self.is_asked = false;
-        self.note_all(guard, moment, answering.as_slice(), arrivals, stored);
-        self.go_round(guard, may_store, waited, gives);
-    }
-
-    /// Reports what came.
-    fn note_all(
-        &mut self,
-        guard: &mut Guard<'_, B, T>,
-        moment: Moment,
-        answering: &[ServerId],
-        arrivals: Vec<Arrival>,
-        stored: Option<StoredLeg>,
-    )
-        ensures { Runs guard.old arrivals.items [] guard.new }
-    {
         // A moment before the hub's leaves its era as it is.
         let _ = guard.clock(moment);
-        self.unmark_all(guard, answering);
-        self.report_all(guard, arrivals);
+        self.unmark_all(guard, answering.as_slice());
+        self.report_all(guard, arrivals, performed);
         self.settle(guard, stored);
+        if replays {
+            self.servers.note_replays();
+        }
         self.take_all(guard);
     }
 
@@ -235,21 +232,32 @@ impl<'a, B: HubLedger, T: Ledger> LoopDesk<'a, B, T> {
     }
 
     /// Reports what became of legs in flight, in this order.
-    fn report_all(&mut self, guard: &mut Guard<'_, B, T>, arrivals: Vec<Arrival>)
+    fn report_all(
+        &mut self,
+        guard: &mut Guard<'_, B, T>,
+        arrivals: Vec<Arrival>,
+        performed: &mut Vec<u64>,
+    )
         ensures { Runs guard.old arrivals.items [] guard.new }
     {
         for arrival in arrivals {
-            self.report(guard, arrival);
+            self.report(guard, arrival, performed);
         }
     }
 
-    /// Reports what became of a leg in flight. A leg more of its server may be sent, and the reply to its call may be there.
-    fn report(&mut self, guard: &mut Guard<'_, B, T>, arrival: Arrival)
+    /// Reports what became of a leg in flight. A leg more of its server may be sent, and the reply to its call may be there. Where it
+    /// was sent again and performed, its record is done, and the server's next one comes.
+    fn report(&mut self, guard: &mut Guard<'_, B, T>, arrival: Arrival, performed: &mut Vec<u64>)
         ensures { Runs guard.old (arrival ∷ []) [] guard.new }
     {
         let server = arrival.server;
         let call = call_of(guard.core(), arrival.leg);
-        report(guard, arrival);
+        let record = report(guard, arrival);
+        if let Some(number) = record {
+            // Without memory for its number it is pending until the next start, and its leg is sent once more then.
+            let _ = performed.push(number);
+            self.servers.note_replay(server);
+        }
         self.servers.note_due(server);
         self.note_mark(guard.core(), server);
         self.note_call(guard.core(), call);
@@ -383,7 +391,29 @@ impl<'a, B: HubLedger, T: Ledger> LoopDesk<'a, B, T> {
         let Ok(number) = u32::try_from(number) else {
             return false;
         };
-        self.send_to(guard, ServerId(number), flights)
+        let server = ServerId(number);
+        if self.servers.take_replay(server) {
+            self.send_again(guard, server, flights);
+        }
+        self.send_to(guard, server, flights)
+    }
+
+    /// Puts the first leg of a server that is in the spool in flight again, unless it is marked. Where none can be now it is left to the
+    /// next time.
+    fn send_again(
+        &mut self,
+        guard: &mut Guard<'_, B, T>,
+        server: ServerId,
+        flights: &mut Vec<Flight>,
+    )
+        ensures { SendsMore guard.old guard.new flights.old.items flights.new.items }
+    {
+        if guard.core().marked(server) || flights.reserve(1).is_err() {
+            return;
+        }
+        if let Ok(Departure::Sent(flight)) = take_again(self.alloc, guard, server) {
+            flights.push_reserved(flight);
+        }
     }
 
     /// Puts legs in flight to a server until none waits, or as many are in flight as may be. Whether it was looked at; without memory

@@ -1,11 +1,12 @@
 //! Legs in flight that were answered or lost.
 
-ghost use Rattle.std.specs.Prelude.{◌≡◌};
-ghost use Rattle.mcv_turn.specs.Steps.{IsLanding, IsLoss, IsReported};
+ghost use Rattle.std.specs.Prelude.{◌≡◌, true, IfSome, Ok};
+ghost use Rattle.mcv_core.specs.declared.step.Step.{Step as StepOf};
+ghost use Rattle.mcv_turn.specs.Steps.{IsLanding, IsLoss, IsReported, WasPerformed};
 
 use crate::arrival::Arrival;
 use mcv_base::{CallId, LegId, ServerId};
-use mcv_core::{CoreFault, Dispatcher, Step};
+use mcv_core::{Change, CoreFault, Dispatcher, Step};
 use mcv_hub::{Guard, HubLedger, LegReply};
 use std::sync::ledger::Ledger;
 
@@ -46,10 +47,30 @@ fn land<B: HubLedger, T: Ledger>(
     }
 }
 
-/// What became of a leg in flight is reported.
-pub(crate) fn report<B: HubLedger, T: Ledger>(guard: &mut Guard<'_, B, T>, arrival: Arrival)
-    ensures { IsReported arrival.server arrival.leg arrival.reply guard.old guard.new }
+/// What became of a leg in flight is reported. The number of its record, where it was sent again from the spool and its server has
+/// performed it.
+pub(crate) fn report<B: HubLedger, T: Ledger>(
+    guard: &mut Guard<'_, B, T>,
+    arrival: Arrival,
+) -> Option<u64>
+    ensures reported { IsReported arrival.server arrival.leg arrival.reply guard.old guard.new }
+    ensures performed { IfSome result (λ number. WasPerformed number arrival.leg guard.old guard.new) }
 {
     let Arrival { server, leg, reply } = arrival;
-    let _ = land(guard, server, leg, reply);
+    let number = guard.core().record(leg);
+    let landed = land(guard, server, leg, reply);
+    if !has_performed(landed) {
+        return None;
+    }
+    number
+}
+
+/// Whether a leg that was sent again was performed.
+fn has_performed(landed: Result<Step, CoreFault>) -> bool
+    ensures { result ≡ true → (step : StepOf) × (landed ≡ Ok step) × (step.change ≡ Change.Performed) }
+{
+    match landed {
+        Ok(step) => step.change == Change::Performed,
+        Err(_) => false,
+    }
 }

@@ -1,12 +1,12 @@
 //! The next leg of a server comes in flight.
 
 ghost use Rattle.std.specs.Prelude.{◌≡◌, false, Some, Err, IfErr, IfOk, IfSome};
-ghost use Rattle.mcv_core.specs.Events.{IsNext};
+ghost use Rattle.mcv_core.specs.Events.{IsNext, IsReplay};
 ghost use Rattle.mcv_core.specs.Requests.{asked_at, asked_by};
 ghost use Rattle.mcv_core.specs.View.{core_view};
 ghost use Rattle.mcv_hub.specs.Events.{IsHubEvent};
 ghost use Rattle.mcv_turn.specs.Flights.{CameInFlight, is_marked};
-ghost use Rattle.mcv_turn.specs.Steps.{IsDeparture};
+ghost use Rattle.mcv_turn.specs.Steps.{IsDeparture, IsReturn};
 
 use crate::flight::{Departure, Flight};
 use crate::landing::{call_of, lose};
@@ -64,6 +64,27 @@ pub(crate) fn take_next<B: HubLedger, T: Ledger>(
 {
     guard.deletes_are_kept();
     let leg = guard.next(server)?;
+    match flight_of(alloc, guard, server, leg) {
+        Some(flight) => Ok(Departure::Sent(flight)),
+        None => {
+            let call = call_of(guard.core(), leg);
+            let _ = lose(guard, server, leg);
+            Ok(Departure::Lost { leg, call })
+        }
+    }
+}
+
+/// The first leg of a server that is in the spool comes in flight again, as `take_next` has it of those that wait.
+pub(crate) fn take_again<B: HubLedger, T: Ledger>(
+    alloc: Global,
+    guard: &mut Guard<'_, B, T>,
+    server: ServerId,
+) -> Result<Departure, CoreFault>
+    ensures comes { IfOk result (IsReturn server guard.old guard.new) }
+    ensures refused { IfErr result (λ fault. IsHubEvent (IsReplay (core_view guard.old.core) server (Err fault)) guard.old guard.new) }
+{
+    guard.deletes_are_kept();
+    let leg = guard.replay(server)?;
     match flight_of(alloc, guard, server, leg) {
         Some(flight) => Ok(Departure::Sent(flight)),
         None => {

@@ -9,6 +9,8 @@ use std::mem;
 struct Standing {
     /// A leg may wait for it that can be sent.
     is_due: bool,
+    /// A leg of it that is in the spool is to be sent again.
+    is_replayed: bool,
     /// It is marked.
     is_marked: bool,
 }
@@ -25,6 +27,7 @@ impl Servers {
         let mut all = Vec::new(alloc);
         let standing = Standing {
             is_due: false,
+            is_replayed: false,
             is_marked: false,
         };
         all.resize(count, standing)?;
@@ -47,6 +50,30 @@ impl Servers {
     pub(crate) fn take_due(&mut self, number: usize) -> bool {
         match self.all.get_mut(number) {
             Some(standing) => mem::replace(&mut standing.is_due, false),
+            None => false,
+        }
+    }
+
+    /// A leg of the server that is in the spool is to be sent again.
+    pub(crate) fn note_replay(&mut self, server: ServerId) {
+        if let Some(standing) = self.all.get_mut(server.0 as usize) {
+            standing.is_replayed = true;
+            standing.is_due = true;
+        }
+    }
+
+    /// The same of all servers.
+    pub(crate) fn note_replays(&mut self) {
+        for standing in self.all.iter_mut() {
+            standing.is_replayed = true;
+            standing.is_due = true;
+        }
+    }
+
+    /// Whether a leg of the server is to be sent again. None is before that is noted again.
+    pub(crate) fn take_replay(&mut self, server: ServerId) -> bool {
+        match self.all.get_mut(server.0 as usize) {
+            Some(standing) => mem::replace(&mut standing.is_replayed, false),
             None => false,
         }
     }

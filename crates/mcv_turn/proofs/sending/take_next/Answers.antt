@@ -1,4 +1,4 @@
-use Rattle.std.proofs.Common.{◌≡◌, Some, sym, subst}
+use Rattle.std.proofs.Common.{◌≡◌, Some, inl, sym, subst}
 use Rattle.std.proofs.lemmas.Result.{err_from_is_err_and}
 use Rattle.mcv_base.specs.declared.request.LegId.{LegId}
 use Rattle.mcv_core.specs.Requests.{asked_at, asked_by}
@@ -6,7 +6,7 @@ use Rattle.mcv_turn.specs.Flights.{IsNext}
 use Rattle.mcv_turn.proofs.sending.take_next.Goals as goal
 
 pub flight_of-requires : goal.flight_of-requires
-flight_of-requires g c = record { before = c.args.guard.now; keeps = c.deletes_are_kept.ensures; next = c.in_ok-leg.ensures }
+flight_of-requires g c = record { before = c.args.guard.now; keeps = c.deletes_are_kept.ensures; event = inl c.in_ok-leg.ensures }
 
 pub returns-in_err-leg-clause-refused : goal.returns-in_err-leg-clause-refused
 returns-in_err-leg-clause-refused g c =
