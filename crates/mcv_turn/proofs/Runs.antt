@@ -11,8 +11,8 @@ use Rattle.mcv_hub.specs.Events.{IsHubEvent}
 use Rattle.mcv_hub.specs.State.{HubView}
 use Rattle.mcv_spool.specs.declared.fault.SpoolFault.{SpoolFault}
 use Rattle.mcv_spool.specs.declared.record.Stored.{Stored}
-use Rattle.mcv_turn.specs.Runs.{IsTurn, Runs, SendsMore, joined, nothing, refused, sent, stored}
-use Rattle.mcv_turn.specs.Steps.{IsSent}
+use Rattle.mcv_turn.specs.Runs.{IsTurn, Runs, SendsMore, joined, nothing, refused, sent, sent_again, stored}
+use Rattle.mcv_turn.specs.Steps.{IsSent, IsSentAgain}
 use Rattle.mcv_turn.specs.declared.arrival.Arrival.{Arrival}
 use Rattle.mcv_turn.specs.declared.flight.Flight.{Flight}
 
@@ -63,3 +63,11 @@ turned old mid new arrivals before after h k =
 pub settled : (old new : HubView) (leg : LegId) (outcome : Result Stored SpoolFault) (r : Result Step CoreFault) → IfOk outcome (λ s. IsHubEvent (IsSpooledLeg (core_view old.core) leg s r) old new) → OnErr outcome (IsHubEvent (IsRefusedLeg (core_view old.core) leg r) old new) → Runs old [] [] new
 settled old new leg (Ok s) r h k = stored old new leg s r h
 settled old new leg (Err fault) r h k = refused old new leg r k
+
+-- one leg comes in flight again
+pub sent_one_again : (old new : HubView) (before after : List Flight) (server : ServerId) (f : Flight) → IsSentAgain server f old new → after ≡ before ++ f ∷ [] → SendsMore old new before after
+sent_one_again old new before after server f s e = record { more = f ∷ []; are = e; run = sent_again old new server f s }
+
+-- none does
+pub sent_none : (old new : HubView) (before after : List Flight) → Runs old [] [] new → after ≡ before → SendsMore old new before after
+sent_none old new before after h e = record { more = []; are = e ∙ sym (append-nil before); run = h }

@@ -202,17 +202,28 @@ impl<'a, B: HubLedger, T: Ledger> LoopDesk<'a, B, T> {
         ensures { SendsMore guard.old guard.new gives.old.flights.items gives.new.flights.items }
     {
         for _round in 0..TURNS {
-            let is_open = self.open_gate(guard, waited, &mut gives.past);
-            if is_open {
-                self.enter(guard);
-            }
-            self.send_all(guard, &mut gives.flights);
-            self.hold(guard, may_store, &mut gives.held);
-            self.take_all(guard);
-            if self.is_over(guard.core(), is_open) {
+            if self.go_on(guard, may_store, waited, gives) {
                 return;
             }
         }
+    }
+
+    /// Requests begin, and legs come in flight. Whether nothing is to be done then before something comes.
+    fn go_on(
+        &mut self,
+        guard: &mut Guard<'_, B, T>,
+        may_store: bool,
+        waited: bool,
+        gives: &mut Gives,
+    ) -> bool
+        ensures { SendsMore guard.old guard.new gives.old.flights.items gives.new.flights.items }
+    {
+        let is_open = self.open_gate(guard, waited, &mut gives.past);
+        self.enter(guard, is_open);
+        self.send_all(guard, &mut gives.flights);
+        self.hold(guard, may_store, &mut gives.held);
+        self.take_all(guard);
+        self.is_over(guard.core(), is_open)
     }
 
     /// Whether nothing is to be done before something comes: no request waits to begin, or they may not, and what runs will end.
@@ -252,8 +263,8 @@ impl<'a, B: HubLedger, T: Ledger> LoopDesk<'a, B, T> {
     {
         let server = arrival.server;
         let call = call_of(guard.core(), arrival.leg);
-        let record = report(guard, arrival);
-        if let Some(number) = record {
+        let landed = report(guard, arrival);
+        if let Some(number) = landed {
             // Without memory for its number it is pending until the next start, and its leg is sent once more then.
             let _ = performed.push(number);
             self.servers.note_replay(server);
@@ -311,10 +322,13 @@ impl<'a, B: HubLedger, T: Ledger> LoopDesk<'a, B, T> {
         }
     }
 
-    /// Begins calls for the keys of questions that enter.
-    fn enter(&mut self, guard: &mut Guard<'_, B, T>)
+    /// Begins calls for the keys of questions that enter, where they may.
+    fn enter(&mut self, guard: &mut Guard<'_, B, T>, is_open: bool)
         ensures { Runs guard.old [] [] guard.new }
     {
+        if !is_open {
+            return;
+        }
         for _question in 0..self.entering.len() {
             let Some(number) = self.entering.pop_front() else {
                 break;
@@ -392,14 +406,12 @@ impl<'a, B: HubLedger, T: Ledger> LoopDesk<'a, B, T> {
             return false;
         };
         let server = ServerId(number);
-        if self.servers.take_replay(server) {
-            self.send_again(guard, server, flights);
-        }
+        self.send_again(guard, server, flights);
         self.send_to(guard, server, flights)
     }
 
-    /// Puts the first leg of a server that is in the spool in flight again, unless it is marked. Where none can be now it is left to the
-    /// next time.
+    /// Where legs of a server are to be sent again, puts its first one that is in the spool in flight, unless the server is marked. Where
+    /// none can be now it is left to the next time.
     fn send_again(
         &mut self,
         guard: &mut Guard<'_, B, T>,
@@ -408,11 +420,16 @@ impl<'a, B: HubLedger, T: Ledger> LoopDesk<'a, B, T> {
     )
         ensures { SendsMore guard.old guard.new flights.old.items flights.new.items }
     {
-        if guard.core().marked(server) || flights.reserve(1).is_err() {
+        if !self.servers.take_replay(server) || guard.core().marked(server) {
             return;
         }
-        if let Ok(Departure::Sent(flight)) = take_again(self.alloc, guard, server) {
-            flights.push_reserved(flight);
+        if flights.reserve(1).is_err() {
+            return;
+        }
+        match take_again(self.alloc, guard, server) {
+            Ok(Departure::Sent(flight)) => flights.push_reserved(flight),
+            Ok(Departure::Lost { leg: _, call: _ }) => {}
+            Err(_) => {}
         }
     }
 

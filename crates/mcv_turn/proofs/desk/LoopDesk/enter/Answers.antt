@@ -7,3 +7,6 @@ loop-question-init g c = nothing c.args.guard.now
 
 pub loop-question-preserved : goal.loop-question-preserved
 loop-question-preserved g c = quiet c.args.guard.now c.loop-question.guard c.begin.new.guard c.loop-question.invariant c.begin.ensures
+
+pub returns-then-not-is_open : goal.returns-then-not-is_open
+returns-then-not-is_open g c = nothing c.args.guard.now
