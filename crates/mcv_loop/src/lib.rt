@@ -7,9 +7,11 @@
 
 mod client;
 mod line;
+mod loss;
 mod main_loop;
 mod post;
 mod sources;
 
+pub use crate::loss::{Loss, may_ask_again};
 pub use crate::main_loop::{Limits, Loop};
 pub use crate::sources::{Ready, Source, SourceFault, Sources, Took};

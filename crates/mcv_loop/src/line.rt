@@ -1,5 +1,6 @@
 //! A connection of a loop to a server, for the legs of one hub.
 
+use crate::loss::{Loss, may_ask_again};
 use mcv_base::ServerId;
 use mcv_outgoing::Outgoing;
 use mcv_pipeline::Landed;
@@ -14,10 +15,14 @@ use std::time::Instant;
 #[derive(Drop)]
 enum State {
     Closed,
-    /// Legs are sent over it. Of each in flight, the oldest first, when it was sent.
+    /// Legs are sent over it. Those in flight, the oldest first.
     Open {
         upstream: Upstream,
-        sent: VecDeque<Option<Instant>>,
+        sent: VecDeque<Sent>,
+        /// A leg has landed over it.
+        is_kept: bool,
+        /// Bytes may have come of the replies to those in flight.
+        has_begun: bool,
     },
     /// The server, which is marked, is asked whether it answers.
     Probing {
@@ -25,6 +30,15 @@ enum State {
         output: Outgoing,
         since: Option<Instant>,
     },
+}
+
+/// A leg in flight.
+#[derive(Drop)]
+struct Sent {
+    flight: Flight,
+    at: Option<Instant>,
+    /// It was sent before over a connection that was lost.
+    is_again: bool,
 }
 
 /// A connection to a server.
@@ -78,6 +92,8 @@ impl Line {
         self.state = State::Open {
             upstream: Upstream::new(self.alloc),
             sent: VecDeque::new(self.alloc),
+            is_kept: false,
+            has_begun: false,
         };
     }
 
@@ -95,20 +111,26 @@ impl Line {
         Ok(())
     }
 
-    /// Sends a leg. Whether it is to be written; else it is lost.
-    pub(crate) fn send(&mut self, flight: &Flight, now: Option<Instant>) -> bool {
-        let State::Open { upstream, sent } = &mut self.state else {
-            return false;
+    /// Sends a leg, for the first time or again. Where it can't be it is given back.
+    pub(crate) fn send(
+        &mut self,
+        flight: Flight,
+        now: Option<Instant>,
+        is_again: bool,
+    ) -> Result<(), Flight> {
+        let State::Open { upstream, sent, .. } = &mut self.state else {
+            return Err(flight);
         };
-        if sent.push_back(now).is_err() {
-            return false;
+        if sent.reserve(1).is_err() || upstream.send(flight.leg, &flight.request).is_err() {
+            return Err(flight);
         }
-        if upstream.send(flight.leg, &flight.request).is_err() {
-            let _ = sent.pop_back();
-            return false;
-        }
+        sent.push_back_reserved(Sent {
+            flight,
+            at: now,
+            is_again,
+        });
         self.is_due = true;
-        true
+        Ok(())
     }
 
     /// What is to be written.
@@ -139,12 +161,19 @@ impl Line {
     pub(crate) fn hear(&mut self, piece: &[u8], landed: &mut Vec<Landed>) -> Heard {
         match &mut self.state {
             State::Closed => Heard::Faulty,
-            State::Open { upstream, sent } => {
+            State::Open {
+                upstream,
+                sent,
+                is_kept,
+                has_begun,
+            } => {
                 let before = landed.len();
                 let fed = upstream.feed(piece, landed);
                 for _leg in before..landed.len() {
-                    let _ = sent.pop_front();
+                    let _landed = sent.pop_front();
+                    *is_kept = true;
                 }
+                *has_begun = !sent.is_empty();
                 match fed {
                     Ok(()) => Heard::Goes,
                     Err(_) => Heard::Faulty,
@@ -158,21 +187,44 @@ impl Line {
         }
     }
 
-    /// The connection is lost: the legs in flight over it, the oldest first, are put behind `arrivals`. An error is that memory ran
-    /// out: it is to be called again.
-    pub(crate) fn lose(&mut self, arrivals: &mut Vec<Arrival>) -> Result<(), AllocError> {
-        if let State::Open { upstream, .. } = &mut self.state {
+    /// The connection is lost so: the legs in flight over it, the oldest first, are to be sent once more where they may be; the others
+    /// are put behind `arrivals`. An error is that memory ran out: it is to be called again.
+    pub(crate) fn lose(
+        &mut self,
+        loss: Loss,
+        arrivals: &mut Vec<Arrival>,
+        again: &mut Vec<Flight>,
+    ) -> Result<(), AllocError> {
+        self.is_due = false;
+        if let State::Open {
+            upstream,
+            sent,
+            is_kept,
+            has_begun,
+        } = &mut self.state
+        {
+            let loss = match loss {
+                Loss::Idle if !*is_kept || *has_begun => Loss::Broken,
+                other => other,
+            };
             upstream.close();
-            for _leg in 0..u64::MAX {
-                arrivals.reserve(1)?;
-                let Some(leg) = upstream.lost() else {
-                    break;
-                };
-                arrivals.push_reserved(Arrival::lost(self.server, leg));
+            arrivals.reserve(sent.len())?;
+            again.reserve(sent.len())?;
+            while let Some(one) = sent.pop_front() {
+                let _ = upstream.lost();
+                let Sent {
+                    flight,
+                    is_again,
+                    ..
+                } = one;
+                if !is_again && may_ask_again(flight.request.op, loss) {
+                    again.push(flight)?;
+                } else {
+                    arrivals.push(Arrival::lost(self.server, flight.leg))?;
+                }
             }
         }
         self.state = State::Closed;
-        self.is_due = false;
         Ok(())
     }
 
@@ -188,7 +240,7 @@ impl Line {
     pub(crate) fn since(&self) -> Option<Instant> {
         match &self.state {
             State::Closed => None,
-            State::Open { sent, .. } => *sent.front()?,
+            State::Open { sent, .. } => sent.front()?.at,
             State::Probing { since, .. } => *since,
         }
     }

@@ -2,6 +2,7 @@
 
 use crate::client::Client;
 use crate::line::{Heard, Line, arrive};
+use crate::loss::Loss;
 use crate::post::Post;
 use crate::sources::{Ready, Source, SourceFault, Sources, Took};
 use mcv_base::ServerId;
@@ -9,7 +10,7 @@ use mcv_desks::LoopDesks;
 use mcv_hub::{Pass, Receipt};
 use mcv_hubs::{HubNames, Hubs, Names, Seats};
 use mcv_session::DeskFault;
-use mcv_turn::{Arrival, Gives};
+use mcv_turn::{Arrival, Flight, Gives};
 use std::alloc::{AllocError, Global};
 use std::collections::HashMap;
 use std::mem;
@@ -252,7 +253,7 @@ impl<'a, F: HubNames, G: Names, S: Sources> Loop<'a, F, G, S> {
             {
                 Took::NotNow => return,
                 Took::Over => {
-                    self.lose(hub, server);
+                    self.lose(hub, server, Loss::Idle);
                     return;
                 }
                 Took::Bytes(count) => {
@@ -277,7 +278,7 @@ impl<'a, F: HubNames, G: Names, S: Sources> Loop<'a, F, G, S> {
         };
         let mut landed = Vec::new(self.alloc);
         if post.arrivals.reserve(line.in_flight()).is_err() {
-            self.lose(hub, server);
+            self.lose(hub, server, Loss::Idle);
             return false;
         }
         let heard = line.hear(piece, &mut landed);
@@ -285,7 +286,7 @@ impl<'a, F: HubNames, G: Names, S: Sources> Loop<'a, F, G, S> {
         match heard {
             Heard::Goes => true,
             Heard::Faulty => {
-                self.lose(hub, server);
+                self.lose(hub, server, Loss::Broken);
                 false
             }
             Heard::Answers => {
@@ -296,19 +297,23 @@ impl<'a, F: HubNames, G: Names, S: Sources> Loop<'a, F, G, S> {
         }
     }
 
-    /// A connection to a server is lost, and the legs in flight with it.
-    fn lose(&mut self, hub: usize, server: ServerId) {
+    /// A connection to a server is lost so, and the legs in flight with it. Those that may be are sent once more, before any new leg.
+    fn lose(&mut self, hub: usize, server: ServerId, loss: Loss) {
         let Some(place) = self.place(hub, server) else {
             return;
         };
+        let mut again = Vec::new(self.alloc);
         if let (Some(line), Some(post)) = (self.lines.get_mut(place), self.posts.get_mut(hub)) {
             if line.is_closed() {
                 return;
             }
-            let _ = line.lose(&mut post.arrivals);
+            let _ = line.lose(loss, &mut post.arrivals, &mut again);
         }
         self.sources
             .close(&self.pass, Source::Server { hub, server });
+        for flight in again {
+            self.send(hub, flight, true);
+        }
     }
 
     /// Whether a second has passed since it did so last; then servers and clients are looked at whose time has run out, and marked
@@ -331,6 +336,7 @@ impl<'a, F: HubNames, G: Names, S: Sources> Loop<'a, F, G, S> {
             let waits = self.desks.waits(hub);
             if let Some(post) = self.posts.get_mut(hub) {
                 post.is_wanted = waits || post.refused_until.is_some();
+                post.replays = true;
             }
         }
     }
@@ -353,7 +359,7 @@ impl<'a, F: HubNames, G: Names, S: Sources> Loop<'a, F, G, S> {
                     None => false,
                 };
                 if is_late {
-                    self.lose(hub, server);
+                    self.lose(hub, server, Loss::Late);
                 }
             }
         }
@@ -559,15 +565,14 @@ impl<'a, F: HubNames, G: Names, S: Sources> Loop<'a, F, G, S> {
         let Gives {
             flights,
             held,
+            performed,
             past: _,
         } = gives;
         for flight in flights {
-            let server = flight.server;
-            if !self.send(hub, &flight) {
-                if let Some(post) = self.posts.get_mut(hub) {
-                    let _ = post.arrivals.push(Arrival::lost(server, flight.leg));
-                }
-            }
+            self.send(hub, flight, false);
+        }
+        for number in performed {
+            self.sources.finish(&self.pass, number);
         }
         let Some(held) = held else {
             return;
@@ -584,18 +589,28 @@ impl<'a, F: HubNames, G: Names, S: Sources> Loop<'a, F, G, S> {
         }
     }
 
-    /// Sends a leg over its connection, which is begun where there is none. Whether it will be written.
-    fn send(&mut self, hub: usize, flight: &mcv_turn::Flight) -> bool {
+    /// Sends a leg over its connection, which is begun where there is none. Where it can't be it is lost.
+    fn send(&mut self, hub: usize, flight: Flight, is_again: bool) {
+        let server = flight.server;
+        if let Err(flight) = self.try_send(hub, flight, is_again) {
+            if let Some(post) = self.posts.get_mut(hub) {
+                let _ = post.arrivals.push(Arrival::lost(server, flight.leg));
+            }
+        }
+    }
+
+    /// Sends a leg over its connection, or gives it back.
+    fn try_send(&mut self, hub: usize, flight: Flight, is_again: bool) -> Result<(), Flight> {
         let Some(place) = self.place(hub, flight.server) else {
-            return false;
+            return Err(flight);
         };
         let Some(line) = self.lines.get_mut(place) else {
-            return false;
+            return Err(flight);
         };
         if line.is_closed() && self.sources.connect(&self.pass, hub, flight.server) {
             line.open();
         }
-        line.send(flight, self.now)
+        line.send(flight, self.now, is_again)
     }
 
     /// Gives all answers that are there to their sessions.

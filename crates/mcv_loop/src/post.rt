@@ -14,6 +14,8 @@ pub(crate) struct Post {
     pub(crate) stored: Option<StoredLeg>,
     /// A turn is to be made, whatever came.
     pub(crate) is_wanted: bool,
+    /// Legs that are in the spool are to be sent again.
+    pub(crate) replays: bool,
     /// Until when the spool isn't asked.
     pub(crate) refused_until: Option<Instant>,
     /// Since when requests have waited to begin.
@@ -28,6 +30,7 @@ impl Post {
             answering: Vec::new(alloc),
             stored: None,
             is_wanted: false,
+            replays: false,
             refused_until: None,
             waits_since: None,
         }
@@ -36,6 +39,7 @@ impl Post {
     /// Whether a turn is to be made.
     pub(crate) fn is_due(&self) -> bool {
         self.is_wanted
+            || self.replays
             || self.stored.is_some()
             || !self.arrivals.is_empty()
             || !self.answering.is_empty()
@@ -54,6 +58,7 @@ impl Post {
         came.arrivals = mem::replace(&mut self.arrivals, Vec::new(alloc));
         came.answering = mem::replace(&mut self.answering, Vec::new(alloc));
         came.stored = self.stored.take();
+        came.replays = mem::replace(&mut self.replays, false);
         came.may_store = may_store;
         came.waited = waited;
         came

@@ -84,6 +84,9 @@ pub trait Sources: Drop {
     /// The record of a held leg is to be written, for the hub of this number. Whether it will be: the answer comes as `Stored`.
     fn store(&mut self, pass: &Pass, hub: usize, held: HeldLeg) -> bool;
 
+    /// The record of this number is done: its leg was performed.
+    fn finish(&mut self, pass: &Pass, number: u64);
+
     /// Seconds since 1970.
     fn moment(&mut self) -> Moment;
 

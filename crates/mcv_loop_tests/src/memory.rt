@@ -31,6 +31,10 @@ pub(crate) struct Wire {
     is_open: bool,
     /// It accepts connections.
     pub(crate) is_up: bool,
+    /// It closes its connection with the next bytes that come.
+    pub(crate) closes: bool,
+    /// It has closed its connection, and the loop doesn't know yet.
+    ends: bool,
 }
 
 /// Clients, servers and a spool.
@@ -42,6 +46,8 @@ pub(crate) struct Memory {
     spool: Spool<MemoryDisk>,
     /// What the spool answered, each with its hub, and wasn't given yet.
     stored: Vec<(usize, StoredLeg)>,
+    /// How many records are done.
+    pub(crate) finished: u64,
     /// How many bytes are read at most at a time.
     pub(crate) cut: usize,
 }
@@ -54,6 +60,7 @@ impl Memory {
             wires: Vec::new(alloc),
             spool: Spool::open(alloc, MemoryDisk::new(alloc)).ok()?,
             stored: Vec::new(alloc),
+            finished: 0,
             cut: 1_000,
         })
     }
@@ -78,6 +85,8 @@ impl Memory {
             memcached: Server::new(self.alloc),
             is_open: false,
             is_up: true,
+            closes: false,
+            ends: false,
         };
         self.wires.push(wire).ok()
     }
@@ -104,7 +113,7 @@ impl Memory {
             }
         }
         for wire in self.wires.iter() {
-            if wire.is_open && (!wire.memcached.says.is_empty() || !wire.is_up) {
+            if wire.ends || wire.is_open && (!wire.memcached.says.is_empty() || !wire.is_up) {
                 let (hub, server) = (wire.hub, wire.server);
                 ready
                     .push(Ready::Read(Source::Server { hub, server }))
@@ -186,6 +195,12 @@ impl Sources for Memory {
                 }
             }
             Source::Server { hub, server } => match self.wire(hub, server) {
+                Some(wire) if wire.closes && wire.is_open => {
+                    wire.closes = false;
+                    wire.is_open = false;
+                    wire.ends = true;
+                    Took::Bytes(bytes.len())
+                }
                 Some(wire) if wire.is_open && wire.is_up => {
                     match wire.memcached.read(bytes) {
                         Some(()) => Took::Bytes(bytes.len()),
@@ -217,6 +232,7 @@ impl Sources for Memory {
             Source::Server { hub, server } => {
                 if let Some(wire) = self.wire(hub, server) {
                     wire.is_open = false;
+                    wire.ends = false;
                     wire.memcached.says.clear();
                 }
             }
@@ -227,6 +243,12 @@ impl Sources for Memory {
         let HeldLeg { leg, delete } = held;
         let outcome = self.spool.append(delete);
         self.stored.push((hub, StoredLeg { leg, outcome })).is_ok()
+    }
+
+    fn finish(&mut self, _pass: &Pass, number: u64) {
+        if self.spool.done(number).is_ok() {
+            self.finished = self.finished.saturating_add(1);
+        }
     }
 
     fn moment(&mut self) -> Moment {

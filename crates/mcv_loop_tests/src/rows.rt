@@ -30,6 +30,7 @@ enum Row {
     SeveralHubs,
     EveryCut,
     ServerDies,
+    ServerCloses,
     ClientGoes,
 }
 
@@ -152,7 +153,8 @@ fn every_cut<F: HubNames, G: Names, R: AllocGlobal + Wait + Abort>(
     check_told(rt, looping, 0, wanted.as_slice());
 }
 
-/// A server dies with legs in flight. Each delete is answered once, when its record is in the spool.
+/// Servers die with legs in flight. Each delete is answered once, when its record is in the spool; and it is sent again, and its record
+/// done, when its server is back.
 fn server_dies<F: HubNames, G: Names, R: Wait + Abort>(
     rt: &R,
     looping: &mut Loop<'_, F, G, Memory>,
@@ -168,6 +170,27 @@ fn server_dies<F: HubNames, G: Names, R: Wait + Abort>(
     for client in 0..3 {
         check_told(rt, looping, client, b"NOT_FOUND\r\n");
     }
+    for wire in looping.sources().wires.iter_mut() {
+        wire.is_up = true;
+    }
+    rounds(rt, looping, 12);
+    let finished = looping.sources().finished;
+    assert!(rt; finished == 3, "{finished} records are done");
+}
+
+/// A server closes an idle connection as a leg is sent over it: a get is sent once more, over a new one.
+fn server_closes<F: HubNames, G: Names, R: Wait + Abort>(
+    rt: &R,
+    looping: &mut Loop<'_, F, G, Memory>,
+) {
+    send(rt, looping, 0, b"set a 0 0 1\r\nx\r\nget a\r\n");
+    rounds(rt, looping, 8);
+    for wire in looping.sources().wires.iter_mut() {
+        wire.closes = true;
+    }
+    send(rt, looping, 1, b"get a\r\n");
+    rounds(rt, looping, 8);
+    check_told(rt, looping, 1, b"VALUE a 0 1\r\nx\r\nEND\r\n");
 }
 
 /// A client goes in the middle of its request, and another one goes on.
@@ -267,6 +290,10 @@ fn play_over<F: HubNames, G: Names, R: AllocGlobal + Wait + Abort>(
             server_dies(rt, &mut looping);
             3
         }
+        Row::ServerCloses => {
+            server_closes(rt, &mut looping);
+            3
+        }
         Row::ClientGoes => {
             client_goes(rt, &mut looping);
             4
@@ -314,4 +341,9 @@ fn a_server_that_dies_with_legs_in_flight(rt: HostRuntime) {
 #[test]
 fn a_client_that_goes_in_the_middle_of_its_request(rt: HostRuntime) {
     play_row(&rt, Row::ClientGoes, 2);
+}
+
+#[test]
+fn a_server_that_closes_an_idle_connection(rt: HostRuntime) {
+    play_row(&rt, Row::ServerCloses, 1);
 }

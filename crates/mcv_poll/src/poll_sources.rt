@@ -286,6 +286,10 @@ impl<R: Net + Clock + Wait + Copy + Drop> Sources for PollSources<R> {
         self.mailbox.send(&self.rt, hub, held)
     }
 
+    fn finish(&mut self, _pass: &Pass, number: u64) {
+        self.mailbox.finish(&self.rt, number);
+    }
+
     fn moment(&mut self) -> Moment {
         let Ok(now) = SystemTime::now(&self.rt) else {
             return Moment(0);

@@ -7,11 +7,24 @@ use std::alloc::Global;
 use std::mem;
 use std::sync::{Condvar, Mutex, Wait};
 
+/// What the spool's thread is to do.
+#[derive(Drop)]
+enum Task {
+    /// Write the record of a leg, for the hub of this number.
+    Write(usize, HeldLeg),
+    /// Mark the record of this number as done.
+    Finish(u64),
+    /// End.
+    End,
+}
+
 /// What a loop and the spool's thread leave for each other.
 #[derive(Drop)]
 struct Letters {
     /// Legs whose records are to be written, each with the number of its hub.
     held: Vec<(usize, HeldLeg)>,
+    /// The numbers of records that are done.
+    performed: Vec<u64>,
     /// What the spool answered.
     stored: Vec<(usize, StoredLeg)>,
     /// The thread is to end.
@@ -34,6 +47,7 @@ impl Mailbox {
             alloc,
             letters: Mutex::new(Letters {
                 held: Vec::new(alloc),
+                performed: Vec::new(alloc),
                 stored: Vec::new(alloc),
                 ends: false,
             }),
@@ -49,6 +63,12 @@ impl Mailbox {
         is_sent
     }
 
+    /// The record of this number is done. Without memory for that it is pending until the next start.
+    pub(crate) fn finish<R: Wait>(&self, rt: &R, number: u64) {
+        let _ = self.letters.lock(rt).performed.push(number);
+        self.bell.notify_one();
+    }
+
     /// What the spool has answered since it was asked last.
     pub(crate) fn answers<R: Wait>(&self, rt: &R) -> Vec<(usize, StoredLeg)> {
         mem::replace(&mut self.letters.lock(rt).stored, Vec::new(self.alloc))
@@ -60,15 +80,18 @@ impl Mailbox {
         self.bell.notify_one();
     }
 
-    /// The next leg whose record is to be written, once there is one; None where the thread is to end.
-    fn next<R: Wait>(&self, rt: &R) -> Option<(usize, HeldLeg)> {
+    /// What is to be done next, once there is something: records that are to be written come first.
+    fn next<R: Wait>(&self, rt: &R) -> Task {
         let mut letters = self.letters.lock(rt);
         for _turn in rt.forever() {
-            if let Some(held) = letters.held.pop() {
-                return Some(held);
+            if let Some((hub, held)) = letters.held.pop() {
+                return Task::Write(hub, held);
+            }
+            if let Some(number) = letters.performed.pop() {
+                return Task::Finish(number);
             }
             if letters.ends {
-                return None;
+                return Task::End;
             }
             letters = self.bell.wait(rt, letters);
         }
@@ -83,19 +106,25 @@ impl Mailbox {
     }
 }
 
-/// Writes records until it is to end. Where the spool refuses one it is opened again if it has to be.
+/// Writes records, and marks those as done whose legs were performed, until it is to end. Where the spool refuses a record it is opened
+/// again if it has to be.
 pub fn serve_spool<D: Disk, R: Wait>(rt: &R, spool: &mut Spool<D>, mailbox: &Mailbox) {
-    for _record in rt.forever() {
-        let Some((hub, held)) = mailbox.next(rt) else {
-            return;
-        };
-        let HeldLeg { leg, delete } = held;
-        let outcome = spool.append(delete);
-        if outcome.is_err() {
-            let _ = spool.reopen();
-        }
-        if !mailbox.answer(rt, hub, StoredLeg { leg, outcome }) {
-            return;
+    for _task in rt.forever() {
+        match mailbox.next(rt) {
+            Task::Write(hub, held) => {
+                let HeldLeg { leg, delete } = held;
+                let outcome = spool.append(delete);
+                if outcome.is_err() {
+                    let _ = spool.reopen();
+                }
+                if !mailbox.answer(rt, hub, StoredLeg { leg, outcome }) {
+                    return;
+                }
+            }
+            Task::Finish(number) => {
+                let _ = spool.done(number);
+            }
+            Task::End => return,
         }
     }
 }
