@@ -158,7 +158,8 @@ fn spool_refuses<B: HubLedger, T: Ledger, R: AllocGlobal + Abort + Wait>(
     scene.check_books(rt, 1);
 }
 
-/// Deletes of a server that died are answered NOT_FOUND once their records are stored, one after the other, and each once.
+/// Deletes of a server that died are answered NOT_FOUND once their records are stored, one after the other, and each once; they are sent
+/// again when it is back, and their records are done.
 fn spool_takes<B: HubLedger, T: Ledger, R: AllocGlobal + Abort + Wait>(
     rt: &R,
     scene: Scene<'_, B, T>,
@@ -181,6 +182,12 @@ fn spool_takes<B: HubLedger, T: Ledger, R: AllocGlobal + Abort + Wait>(
     scene.check_told(rt, 0, b"NOT_FOUND\r\n");
     scene.check_told(rt, 1, b"NOT_FOUND\r\n");
     scene.check_asked(rt, 0, "");
+    scene.connect(rt, 0);
+    scene.replay();
+    scene.settle(rt, 3);
+    scene.check_asked(rt, 0, "delete a\ndelete b\n");
+    let finished = scene.finished;
+    assert!(rt; finished == 2, "{finished} records are done");
     scene.check_books(rt, 2);
 }
 

@@ -70,6 +70,8 @@ pub(crate) struct Scene<'a, B: HubLedger, T: Ledger> {
     pub(crate) clients: Vec<Client>,
     came: Came,
     spool: Spool<MemoryDisk>,
+    /// How many records are done.
+    pub(crate) finished: u64,
     /// The record that is to be written.
     pub(crate) held: Option<HeldLeg>,
 }
@@ -97,6 +99,7 @@ impl<'a, B: HubLedger, T: Ledger> Scene<'a, B, T> {
             spool: Spool::open(alloc, MemoryDisk::new(alloc))
                 .ok()
                 .expect(rt, "a spool"),
+            finished: 0,
             held: None,
         };
         for _server in 0..servers {
@@ -131,6 +134,11 @@ impl<'a, B: HubLedger, T: Ledger> Scene<'a, B, T> {
     /// A client goes.
     pub(crate) fn go(&mut self, rt: &impl Abort, client: usize) {
         self.clients.get_mut(client).expect(rt, "a client").is_there = false;
+    }
+
+    /// Legs in the spool are to be sent again.
+    pub(crate) fn replay(&mut self) {
+        self.came.replays = true;
     }
 
     /// The spool takes records, or refuses them.
@@ -206,8 +214,13 @@ impl<'a, B: HubLedger, T: Ledger> Scene<'a, B, T> {
         let Gives {
             flights,
             held,
+            performed,
             past: _,
         } = gives;
+        for number in performed {
+            self.spool.done(number).ok().expect(rt, "a record");
+            self.finished = self.finished.saturating_add(1);
+        }
         for flight in flights {
             let upstream = self
                 .upstreams
