@@ -20,6 +20,9 @@ use std::time::{Duration, Instant};
 /// The bytes of one read.
 const PIECE: usize = 16_384;
 
+/// The most pieces that are read in a row of one connection, so that others come too.
+const MOST_PIECES: usize = 16;
+
 /// More turns than come.
 const TURNS: u64 = u64::MAX;
 
@@ -156,9 +159,20 @@ impl<'a, F: HubNames, G: Names, S: Sources> Loop<'a, F, G, S> {
         Ok(())
     }
 
-    /// For how long nothing need be done before something is ready; None for ever.
+    /// For how long nothing need be done before something is ready: until the nearest time of a leg runs out, and for a second at most.
     fn patience(&self) -> Option<Duration> {
-        Some(Duration::from_millis(TICK))
+        if !self.ready.is_empty() || !self.touched.is_empty() {
+            return Some(Duration::from_millis(0));
+        }
+        let mut most = Duration::from_millis(TICK);
+        if let Some(limit) = self.limits.server {
+            for line in self.lines.iter() {
+                if let Some(passed) = between(line.since(), self.now) {
+                    most = most.min(limit.saturating_sub(passed));
+                }
+            }
+        }
+        Some(most)
     }
 
     /// Does what is ready.
@@ -245,26 +259,26 @@ impl<'a, F: HubNames, G: Names, S: Sources> Loop<'a, F, G, S> {
         let Some(place) = self.place(hub, server) else {
             return;
         };
-        for _piece in 0..TURNS {
-            let source = Source::Server { hub, server };
-            match self
+        let source = Source::Server { hub, server };
+        for _piece in 0..MOST_PIECES {
+            let took = self
                 .sources
-                .read(&self.pass, source, self.room.as_mut_slice())
-            {
+                .read(&self.pass, source, self.room.as_mut_slice());
+            match took {
                 Took::NotNow => return,
                 Took::Over => {
                     self.lose(hub, server, Loss::Idle);
                     return;
                 }
                 Took::Bytes(count) => {
-                    if !self.hear_piece(hub, server, place, count) {
-                        return;
-                    }
-                    if count < PIECE {
+                    if !self.hear_piece(hub, server, place, count) || count < PIECE {
                         return;
                     }
                 }
             }
+        }
+        if self.ready.push(Ready::Read(source)).is_err() {
+            self.lose(hub, server, Loss::Broken);
         }
     }
 
@@ -424,10 +438,12 @@ impl<'a, F: HubNames, G: Names, S: Sources> Loop<'a, F, G, S> {
 
     /// Asks the next request of a client, or reads it; and writes what it is told.
     fn serve_client(&mut self, number: u64) {
-        for _piece in 0..TURNS {
-            if !self.ask_next(number) || !self.read_client(number) {
-                break;
-            }
+        let mut goes_on = true;
+        for _piece in 0..MOST_PIECES {
+            goes_on = goes_on && self.ask_next(number) && self.read_client(number);
+        }
+        if goes_on {
+            self.touch(number);
         }
         self.write_client(number);
     }
@@ -478,6 +494,7 @@ impl<'a, F: HubNames, G: Names, S: Sources> Loop<'a, F, G, S> {
                 let Some(piece) = self.room.as_slice().get(..count) else {
                     return false;
                 };
+                client.is_unread = count >= PIECE;
                 client.machine.feed(piece).is_ok()
             }
         }
