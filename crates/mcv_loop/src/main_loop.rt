@@ -428,10 +428,8 @@ impl<'a, F: HubNames, G: Names, S: Sources> Loop<'a, F, G, S> {
 
     /// Looks at all clients that are to be: they are read, their requests asked, their answers written.
     fn serve_clients(&mut self) {
-        for _client in 0..self.touched.len() {
-            let Some(number) = self.touched.pop() else {
-                return;
-            };
+        let touched = mem::replace(&mut self.touched, Vec::new(self.alloc));
+        for number in touched {
             self.serve_client(number);
         }
     }
