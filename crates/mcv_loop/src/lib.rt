@@ -6,11 +6,14 @@
 #![tactic(auto)]
 
 mod client;
+mod clients;
 mod line;
+mod lines;
 mod loss;
 mod main_loop;
 mod post;
 mod sources;
+mod turns;
 
 pub use crate::loss::{Loss, may_ask_again};
 pub use crate::main_loop::{Limits, Loop};
