@@ -1,10 +1,11 @@
 //! A request at a hub, from its first call to its last reply.
 
-ghost use Rattle.std.specs.Prelude.{◌≡◌, ◌≤◌, [], true, None, IfNone, IfOk, IfSome};
+ghost use Rattle.std.specs.Prelude.{◌≡◌, ◌≤◌, [], true, None, IfErr, IfNone, IfOk, IfSome, map, vec_capacity, vec_len};
+ghost use Rattle.mcv_core.specs.declared.fault.CoreFault.{CoreFault as Fault};
 ghost use Rattle.std.specs.Arc.{arc_value};
 ghost use Rattle.mcv_session.specs.Desk.{answer_value};
 ghost use Rattle.mcv_text.specs.Request.{request_value};
-ghost use Rattle.mcv_turn.specs.Answers.{AreFor, IsAnswer};
+ghost use Rattle.mcv_turn.specs.Answers.{AreFor, IsAnswer, desk_fault};
 ghost use Rattle.mcv_turn.specs.Runs.{Runs};
 ghost use Rattle.mcv_turn.specs.Question.{IsCause, IsDone};
 
@@ -17,6 +18,7 @@ use mcv_base::{CallId, Part, Request};
 use mcv_core::CoreFault;
 use mcv_hub::{Guard, HubLedger, Seat, TakenReply};
 use mcv_route::Routes;
+use mcv_session::DeskFault;
 use std::alloc::{AllocError, Global};
 use std::marker::{Model, PhantomData};
 use std::sync::Arc;
@@ -83,6 +85,26 @@ fn why_not(
     refused
 }
 
+/// What a request is answered, now that its calls are done with.
+fn outcome_of(
+    routes: &Routes,
+    request: &Request,
+    taken: Vec<TakenReply>,
+    parts: Vec<Part>,
+    missed: Option<CoreFault>,
+    refused: Option<CoreFault>,
+) -> Result<Vec<Part>, DeskFault>
+    requires empty { parts.items ≡ [] }
+    requires room { vec_len taken ≤ vec_capacity parts }
+    ensures ok { IfOk result (λ ps. (missed ≡ None) × (refused ≡ None) × AreFor routes.now (request_value request.now) taken.items × (ps.items ≡ map (λ t. t.reply) taken.items)) }
+    ensures err { IfErr result (λ fault. (cause : Fault) × (fault ≡ desk_fault cause) × IsCause routes.now (request_value request.now) taken.items missed refused cause) }
+{
+    match why_not(routes, request, taken.as_slice(), missed, refused) {
+        Some(fault) => Err(fault_for(fault)),
+        None => Ok(into_parts(taken, parts)),
+    }
+}
+
 impl<B: HubLedger> Question<B> {
     /// A request for which no call is begun yet.
     pub(crate) fn new(
@@ -122,16 +144,18 @@ impl<B: HubLedger> Question<B> {
     )
         ensures { Runs guard.old [] [] guard.new }
     {
-        if self.refused.is_some() {
-            return;
+        match self.refused {
+            Some(_) => return,
+            None => {}
         }
         let to = next_limit(self.count, self.progress.done);
         if to < self.calls.len() {
             return;
         }
         let begun = begin_each(alloc, guard, seat, &self.request, to, &mut self.calls);
-        if let Err(fault) = begun {
-            self.refused = Some(fault);
+        match begun {
+            Ok(()) => {}
+            Err(fault) => self.refused = Some(fault),
         }
     }
 
@@ -192,10 +216,7 @@ impl<B: HubLedger> Question<B> {
             refused,
             ..
         } = self;
-        let outcome = match why_not(routes, &request, taken.as_slice(), progress.missed, refused) {
-            Some(fault) => Err(fault_for(fault)),
-            None => Ok(into_parts(taken, parts)),
-        };
+        let outcome = outcome_of(routes, &request, taken, parts, progress.missed, refused);
         Answer {
             asker,
             request,
