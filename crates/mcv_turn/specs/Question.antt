@@ -16,8 +16,6 @@ pub record QuestionView : Type 0 where
   pub request : RequestValue
   -- the calls that were begun for its first keys
   pub calls : List CallId
-  -- the replies to the first calls
-  pub taken : List TakenReply
   -- how many calls are done with: their replies were taken, or won't come
   pub done : ℕ
   -- why no call was begun for a further key

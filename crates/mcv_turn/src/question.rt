@@ -28,7 +28,8 @@ use std::sync::ledger::Ledger;
 const MOST_RUNNING: usize = 1024;
 
 /// A request at the hub that this ledger stands for: calls are begun for its keys, in their order, up to the first that is refused,
-/// and their replies are taken, in the order of the calls. Clauses see the request, the calls, and what was taken.
+/// and their replies are taken, in the order of the calls. Clauses see the request, the calls, and how
+/// many of them are done with.
 #[derive(Drop)]
 pub(crate) struct Question<B: HubLedger> {
     asker: Asker,
@@ -52,7 +53,7 @@ impl<B: HubLedger> Model for Question<B> {
 
     ghost Value = { QuestionView };
 
-    ghost view = { λ q. record { request = request_value (arc_value q.request); calls = q.calls.items; taken = q.taken.items; done = q.progress.done; refused = q.refused } };
+    ghost view = { λ q. record { request = request_value (arc_value q.request); calls = q.calls.items; done = q.progress.done; refused = q.refused } };
 
     ghost invariant = { λ q. IsQuestion B.opened (request_value (arc_value q.request)) q.count q.calls q.taken q.parts q.progress.done q.progress.missed q.refused };
 }
@@ -112,7 +113,7 @@ impl<B: HubLedger> Question<B> {
         asker: Asker,
         request: Arc<Request>,
     ) -> Result<Question<B>, AllocError>
-        ensures { IfOk result (λ q. q ≡ record { request = request_value (arc_value request); calls = []; taken = []; done = 0; refused = None }) }
+        ensures { IfOk result (λ q. q ≡ record { request = request_value (arc_value request); calls = []; done = 0; refused = None }) }
     {
         let count = key_count(&request);
         let calls = Vec::with_capacity(alloc, count)?;
