@@ -128,10 +128,8 @@ impl<R: Net + Clock + Wait + Copy + Drop> PollSources<R> {
         // Without it small writes may wait, but the connection serves all the same.
         let _ = stream.set_nodelay(true);
         let number = self.next;
-        let token = FIRST
-            .checked_add(self.lines.len())
-            .and_then(|first| first.checked_add(number as usize))
-            .ok_or(ErrorKind::Other)?;
+        let first = FIRST.saturating_add(self.lines.len());
+        let token = first.saturating_add(usize::try_from(number).unwrap_or(usize::MAX));
         let both = Interest::READABLE | Interest::WRITABLE;
         self.poll
             .registry()
