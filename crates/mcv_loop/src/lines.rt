@@ -143,10 +143,18 @@ impl<'a, F: HubNames, G: Names, S: Sources> Loop<'a, F, G, S> {
         }
     }
 
+    /// Asks a marked server whether it answers, over a new connection. One over which no leg is in flight is closed for that.
     pub(crate) fn probe(&mut self, hub: usize, server: ServerId) {
         let Some(place) = self.place(hub, server) else {
             return;
         };
+        let is_idle = match self.lines.get(place) {
+            Some(line) => line.is_open() && line.in_flight() == 0,
+            None => false,
+        };
+        if is_idle {
+            self.lose(hub, server, Loss::Broken);
+        }
         let Some(line) = self.lines.get_mut(place) else {
             return;
         };
