@@ -105,13 +105,8 @@ impl<'a, F: HubNames, G: Names, S: Sources> Loop<'a, F, G, S> {
     /// Closes connections on which a reply didn't come in its time.
     pub(crate) fn expire_lines(&mut self) {
         for hub in 0..self.posts.len() {
-            for server in 0..u32::MAX {
+            for server in 0..self.servers {
                 let server = ServerId(server);
-                if server.0 as usize
-                    >= self.lines.len().checked_div(self.posts.len()).unwrap_or(0)
-                {
-                    break;
-                }
                 let Some(place) = self.place(hub, server) else {
                     break;
                 };
@@ -129,13 +124,8 @@ impl<'a, F: HubNames, G: Names, S: Sources> Loop<'a, F, G, S> {
     /// Asks each marked server that has no connection whether it answers.
     pub(crate) fn probe_marked(&mut self) {
         for hub in 0..self.posts.len() {
-            for server in 0..u32::MAX {
+            for server in 0..self.servers {
                 let server = ServerId(server);
-                if server.0 as usize
-                    >= self.lines.len().checked_div(self.posts.len()).unwrap_or(0)
-                {
-                    break;
-                }
                 if self.desks.is_marked(hub, server) {
                     self.probe(hub, server);
                 }
@@ -195,13 +185,8 @@ impl<'a, F: HubNames, G: Names, S: Sources> Loop<'a, F, G, S> {
     /// Writes what is to be written to servers, with one write for each connection.
     pub(crate) fn write_lines(&mut self) {
         for hub in 0..self.posts.len() {
-            for server in 0..u32::MAX {
+            for server in 0..self.servers {
                 let server = ServerId(server);
-                if server.0 as usize
-                    >= self.lines.len().checked_div(self.posts.len()).unwrap_or(0)
-                {
-                    break;
-                }
                 self.write_line(hub, server);
             }
         }

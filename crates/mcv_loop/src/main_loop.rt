@@ -47,6 +47,8 @@ pub struct Loop<'a, F: HubNames, G: Names, S: Sources> {
     pub(crate) clients: HashMap<u64, Client>,
     /// Clients that are to be looked at.
     pub(crate) touched: Vec<u64>,
+    /// How many servers there are.
+    pub(crate) servers: u32,
     /// The connections to all servers, hub after hub.
     pub(crate) lines: Vec<Line>,
     pub(crate) posts: Vec<Post>,
@@ -104,6 +106,7 @@ impl<'a, F: HubNames, G: Names, S: Sources> Loop<'a, F, G, S> {
             limits,
             clients: HashMap::new(alloc),
             touched: Vec::new(alloc),
+            servers,
             lines,
             posts,
             ready: Vec::new(alloc),
@@ -127,7 +130,7 @@ impl<'a, F: HubNames, G: Names, S: Sources> Loop<'a, F, G, S> {
 
     /// Where the connection to a server for a hub is among all.
     pub(crate) fn place(&self, hub: usize, server: ServerId) -> Option<usize> {
-        let servers = self.lines.len().checked_div(self.posts.len())?;
+        let servers = self.servers as usize;
         hub.checked_mul(servers)?.checked_add(server.0 as usize)
     }
 
