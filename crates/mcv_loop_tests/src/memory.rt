@@ -33,6 +33,8 @@ pub(crate) struct Wire {
     pub(crate) is_up: bool,
     /// It closes its connection with the next bytes that come.
     pub(crate) closes: bool,
+    /// It says nothing.
+    pub(crate) hangs: bool,
     /// It has closed its connection, and the loop doesn't know yet.
     ends: bool,
 }
@@ -48,6 +50,8 @@ pub(crate) struct Memory {
     stored: Vec<(usize, StoredLeg)>,
     /// How many records are done.
     pub(crate) finished: u64,
+    /// The time; None where the clock can't be read.
+    pub(crate) now: Option<Instant>,
     /// How many bytes are read at most at a time.
     pub(crate) cut: usize,
 }
@@ -61,6 +65,7 @@ impl Memory {
             spool: Spool::open(alloc, MemoryDisk::new(alloc)).ok()?,
             stored: Vec::new(alloc),
             finished: 0,
+            now: None,
             cut: 1_000,
         })
     }
@@ -86,9 +91,18 @@ impl Memory {
             is_open: false,
             is_up: true,
             closes: false,
+            hangs: false,
             ends: false,
         };
         self.wires.push(wire).ok()
+    }
+
+    /// So many milliseconds pass.
+    pub(crate) fn pass(&mut self, millis: u64) {
+        self.now = match self.now {
+            Some(now) => now.checked_add(Duration::from_millis(millis)),
+            None => None,
+        };
     }
 
     fn wire(&mut self, hub: usize, server: ServerId) -> Option<&mut Wire> {
@@ -113,7 +127,8 @@ impl Memory {
             }
         }
         for wire in self.wires.iter() {
-            if wire.ends || wire.is_open && (!wire.memcached.says.is_empty() || !wire.is_up) {
+            let says = !wire.hangs && !wire.memcached.says.is_empty();
+            if wire.ends || wire.is_open && (says || !wire.is_up) {
                 let (hub, server) = (wire.hub, wire.server);
                 ready
                     .push(Ready::Read(Source::Server { hub, server }))
@@ -170,6 +185,9 @@ impl Sources for Memory {
                 };
                 if !wire.is_open || !wire.is_up {
                     return Took::Over;
+                }
+                if wire.hangs {
+                    return Took::NotNow;
                 }
                 take(&mut wire.memcached.says, room, most)
             }
@@ -256,6 +274,6 @@ impl Sources for Memory {
     }
 
     fn instant(&mut self) -> Option<Instant> {
-        None
+        self.now
     }
 }

@@ -14,7 +14,9 @@ use mcv_loop::{Limits, Loop};
 use mcv_verdict::{Judgement, judge_input};
 use std::marker::Brand;
 use std::process::Abort;
+use std::rt::Clock;
 use std::sync::{Arc, Wait};
+use std::time::{Duration, Instant};
 
 /// How many seats there are: the loop's.
 const SEATS: u64 = 1;
@@ -31,6 +33,8 @@ enum Row {
     EveryCut,
     ServerDies,
     ServerCloses,
+    ServerHangs,
+    ClientIdles,
     ClientGoes,
 }
 
@@ -173,7 +177,10 @@ fn server_dies<F: HubNames, G: Names, R: Wait + Abort>(
     for wire in looping.sources().wires.iter_mut() {
         wire.is_up = true;
     }
-    rounds(rt, looping, 12);
+    for _second in 0..6 {
+        looping.sources().pass(1_000);
+        rounds(rt, looping, 6);
+    }
     let finished = looping.sources().finished;
     assert!(rt; finished == 3, "{finished} records are done");
 }
@@ -191,6 +198,51 @@ fn server_closes<F: HubNames, G: Names, R: Wait + Abort>(
     send(rt, looping, 1, b"get a\r\n");
     rounds(rt, looping, 8);
     check_told(rt, looping, 1, b"VALUE a 0 1\r\nx\r\nEND\r\n");
+}
+
+/// A server hangs: past its time a get fails, and isn't sent again; a delete goes to the spool.
+fn server_hangs<F: HubNames, G: Names, R: Wait + Abort>(
+    rt: &R,
+    looping: &mut Loop<'_, F, G, Memory>,
+) {
+    for wire in looping.sources().wires.iter_mut() {
+        wire.hangs = true;
+    }
+    send(rt, looping, 0, b"get a\r\n");
+    rounds(rt, looping, 4);
+    check_told(rt, looping, 0, b"");
+    looping.sources().pass(300);
+    rounds(rt, looping, 4);
+    check_told(rt, looping, 0, b"SERVER_ERROR destination failed\r\n");
+    send(rt, looping, 1, b"delete a\r\n");
+    rounds(rt, looping, 4);
+    looping.sources().pass(300);
+    rounds(rt, looping, 4);
+    check_told(rt, looping, 1, b"NOT_FOUND\r\n");
+    for wire in looping.sources().wires.iter() {
+        let asked = wire.memcached.asked.as_str();
+        assert!(rt;
+            asked == "" || asked == "get a\ndelete a\n",
+            "it was asked {asked}"
+        );
+    }
+}
+
+/// A client that sends nothing for too long is closed, and another one is served.
+fn client_idles<F: HubNames, G: Names, R: Wait + Abort>(
+    rt: &R,
+    looping: &mut Loop<'_, F, G, Memory>,
+) {
+    rounds(rt, looping, 2);
+    looping.sources().pass(5_000);
+    send(rt, looping, 1, b"get a\r\n");
+    rounds(rt, looping, 4);
+    looping.sources().pass(6_000);
+    rounds(rt, looping, 2);
+    check_told(rt, looping, 1, b"END\r\n");
+    let clients = looping.sources().clients.iter();
+    let closed = clients.filter(|client| client.is_closed).count();
+    assert!(rt; closed == 2, "{closed} are closed");
 }
 
 /// A client goes in the middle of its request, and another one goes on.
@@ -233,7 +285,7 @@ fn check_books<F: HubNames, G: Names, R: AllocGlobal + Wait + Abort>(
 }
 
 /// Plays a row over so many hubs.
-fn play<F: HubNames, G: Names, R: AllocGlobal + Wait + Abort>(
+fn play<F: HubNames, G: Names, R: AllocGlobal + Wait + Clock + Abort>(
     rt: &R,
     row: Row,
     count: usize,
@@ -257,7 +309,7 @@ fn play<F: HubNames, G: Names, R: AllocGlobal + Wait + Abort>(
 }
 
 /// Plays a row over these hubs.
-fn play_over<F: HubNames, G: Names, R: AllocGlobal + Wait + Abort>(
+fn play_over<F: HubNames, G: Names, R: AllocGlobal + Wait + Clock + Abort>(
     rt: &R,
     row: Row,
     count: usize,
@@ -267,10 +319,11 @@ fn play_over<F: HubNames, G: Names, R: AllocGlobal + Wait + Abort>(
     let mut passes = passes;
     let seats = passes.seats().expect(rt, "seats");
     let limits = Limits {
-        server: None,
-        client: None,
+        server: Some(Duration::from_millis(200)),
+        client: Some(Duration::from_secs(10)),
     };
-    let memory = memory_of(rt, 3, count);
+    let mut memory = memory_of(rt, 3, count);
+    memory.now = Instant::now(rt).ok();
     let looping = Loop::new(rt.alloc(), hubs, passes.pass(), seats, memory, limits);
     let mut looping = looping.expect(rt, "memory");
     let calls = match row {
@@ -294,6 +347,14 @@ fn play_over<F: HubNames, G: Names, R: AllocGlobal + Wait + Abort>(
             server_closes(rt, &mut looping);
             3
         }
+        Row::ServerHangs => {
+            server_hangs(rt, &mut looping);
+            2
+        }
+        Row::ClientIdles => {
+            client_idles(rt, &mut looping);
+            1
+        }
         Row::ClientGoes => {
             client_goes(rt, &mut looping);
             4
@@ -303,7 +364,7 @@ fn play_over<F: HubNames, G: Names, R: AllocGlobal + Wait + Abort>(
 }
 
 /// Plays a row over so many hubs, which are opened for it.
-fn play_row<R: AllocGlobal + Wait + Abort>(rt: &R, row: Row, count: usize) {
+fn play_row<R: AllocGlobal + Wait + Clock + Abort>(rt: &R, row: Row, count: usize) {
     let accepted = accepted_of(rt, TWO);
     play::<Brand, Brand, R>(
         rt,
@@ -346,4 +407,14 @@ fn a_client_that_goes_in_the_middle_of_its_request(rt: HostRuntime) {
 #[test]
 fn a_server_that_closes_an_idle_connection(rt: HostRuntime) {
     play_row(&rt, Row::ServerCloses, 1);
+}
+
+#[test]
+fn a_server_that_hangs(rt: HostRuntime) {
+    play_row(&rt, Row::ServerHangs, 1);
+}
+
+#[test]
+fn a_client_that_idles(rt: HostRuntime) {
+    play_row(&rt, Row::ClientIdles, 1);
 }
