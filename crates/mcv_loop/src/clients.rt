@@ -1,7 +1,7 @@
 //! The clients of a loop.
 
 use crate::client::Client;
-use crate::main_loop::{Loop, MOST_PIECES, PIECE, TURNS, has_passed};
+use crate::main_loop::{Loop, MOST_PIECES, PIECE, TURNS};
 use crate::sources::{Source, Sources, Took};
 use mcv_hubs::{HubNames, Names};
 use mcv_session::DeskFault;
@@ -41,6 +41,15 @@ impl<'a, F: HubNames, G: Names, S: Sources> Loop<'a, F, G, S> {
         }
     }
 
+    /// A client sends no more. What it sent is read to its end.
+    pub(crate) fn note_ending(&mut self, number: u64) {
+        if let Some(client) = self.clients.get_mut(&number) {
+            client.ends = true;
+            client.is_unread = true;
+            self.touch(number);
+        }
+    }
+
     /// A client takes bytes again.
     pub(crate) fn note_taking(&mut self, number: u64) {
         if let Some(client) = self.clients.get_mut(&number) {
@@ -57,9 +66,7 @@ impl<'a, F: HubNames, G: Names, S: Sources> Loop<'a, F, G, S> {
         }
         let mut late = Vec::new(self.alloc);
         for (number, client) in self.clients.iter() {
-            if has_passed(client.since, self.now, self.limits.client)
-                && late.push(*number).is_err()
-            {
+            if client.is_late(self.now, self.limits.client) && late.push(*number).is_err() {
                 break;
             }
         }
@@ -134,7 +141,7 @@ impl<'a, F: HubNames, G: Names, S: Sources> Loop<'a, F, G, S> {
                 let Some(piece) = self.room.as_slice().get(..count) else {
                     return false;
                 };
-                client.is_unread = count >= PIECE;
+                client.is_unread = count >= PIECE || client.ends;
                 client.machine.feed(piece).is_ok()
             }
         }
@@ -176,7 +183,7 @@ impl<'a, F: HubNames, G: Names, S: Sources> Loop<'a, F, G, S> {
                 continue;
             };
             if let Some(client) = self.clients.get_mut(&number) {
-                client.answer(answer);
+                client.answer(answer, self.now);
                 self.touch(number);
             }
         }

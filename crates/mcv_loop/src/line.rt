@@ -1,6 +1,7 @@
 //! A connection of a loop to a server, for the legs of one hub.
 
 use crate::loss::{Loss, may_ask_again};
+use crate::main_loop::has_passed;
 use mcv_base::ServerId;
 use mcv_outgoing::Outgoing;
 use mcv_pipeline::Landed;
@@ -9,7 +10,7 @@ use mcv_turn::{Arrival, Flight};
 use mcv_upstream::Upstream;
 use std::alloc::{AllocError, Global};
 use std::collections::VecDeque;
-use std::time::Instant;
+use std::time::{Duration, Instant};
 
 /// How a connection to a server stands.
 #[derive(Drop)]
@@ -49,8 +50,12 @@ pub(crate) struct Line {
     state: State,
     /// Nothing is written before it is ready.
     pub(crate) is_full: bool,
-    /// Bytes are to be written.
+    /// It is among those that are to be written to.
     pub(crate) is_due: bool,
+    /// The server sends no more.
+    pub(crate) ends: bool,
+    /// It is lost so, but there was no memory to say so of its legs.
+    lost: Option<Loss>,
 }
 
 /// What came of bytes that a server said.
@@ -73,6 +78,8 @@ impl Line {
             state: State::Closed,
             is_full: false,
             is_due: false,
+            ends: false,
+            lost: None,
         }
     }
 
@@ -89,6 +96,7 @@ impl Line {
     /// A connection was begun.
     pub(crate) fn open(&mut self) {
         self.is_full = false;
+        self.ends = false;
         self.state = State::Open {
             upstream: Upstream::new(self.alloc),
             sent: VecDeque::new(self.alloc),
@@ -102,7 +110,7 @@ impl Line {
         let mut output = Outgoing::new(self.alloc);
         output.push(b"version\r\n")?;
         self.is_full = false;
-        self.is_due = true;
+        self.ends = false;
         self.state = State::Probing {
             reader: ProbeReader::new(self.alloc),
             output,
@@ -129,7 +137,6 @@ impl Line {
             at: now,
             is_again,
         });
-        self.is_due = true;
         Ok(())
     }
 
@@ -188,14 +195,14 @@ impl Line {
     }
 
     /// The connection is lost so: the legs in flight over it, the oldest first, are to be sent once more where they may be; the others
-    /// are put behind `arrivals`. An error is that memory ran out: it is to be called again.
+    /// are put behind `arrivals`. An error is that memory ran out: it is overdue, and to be called again.
     pub(crate) fn lose(
         &mut self,
         loss: Loss,
         arrivals: &mut Vec<Arrival>,
         again: &mut Vec<Flight>,
     ) -> Result<(), AllocError> {
-        self.is_due = false;
+        self.lost = Some(loss);
         if let State::Open {
             upstream,
             sent,
@@ -225,6 +232,7 @@ impl Line {
             }
         }
         self.state = State::Closed;
+        self.lost = None;
         Ok(())
     }
 
@@ -233,6 +241,15 @@ impl Line {
         match &self.state {
             State::Open { upstream, .. } => upstream.in_flight(),
             State::Closed | State::Probing { .. } => 0,
+        }
+    }
+
+    /// How it is lost, if its server owes an answer for so long or there was no memory before.
+    pub(crate) fn overdue(&self, now: Option<Instant>, limit: Option<Duration>) -> Option<Loss> {
+        match self.lost {
+            Some(loss) => Some(loss),
+            None if has_passed(self.since(), now, limit) => Some(Loss::Late),
+            None => None,
         }
     }
 

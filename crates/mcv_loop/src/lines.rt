@@ -2,11 +2,12 @@
 
 use crate::line::{Heard, arrive};
 use crate::loss::Loss;
-use crate::main_loop::{Loop, MOST_PIECES, PIECE, has_passed};
+use crate::main_loop::{Loop, MOST_PIECES, PIECE, TURNS, between};
 use crate::sources::{Ready, Source, Sources, Took};
 use mcv_base::ServerId;
 use mcv_hubs::{HubNames, Names};
 use mcv_turn::{Arrival, Flight};
+use std::time::Duration;
 
 impl<'a, F: HubNames, G: Names, S: Sources> Loop<'a, F, G, S> {
     /// A server takes bytes again.
@@ -16,7 +17,35 @@ impl<'a, F: HubNames, G: Names, S: Sources> Loop<'a, F, G, S> {
         };
         if let Some(line) = self.lines.get_mut(place) {
             line.is_full = false;
-            line.is_due = true;
+            self.note_due(hub, server);
+        }
+    }
+
+    /// A server is to be written to. Without memory for that its connection is lost.
+    pub(crate) fn note_due(&mut self, hub: usize, server: ServerId) {
+        let Some(place) = self.place(hub, server) else {
+            return;
+        };
+        let Some(line) = self.lines.get_mut(place) else {
+            return;
+        };
+        if line.is_due {
+            return;
+        }
+        line.is_due = self.due.push((hub, server)).is_ok();
+        if !line.is_due {
+            self.lose(hub, server, Loss::Broken);
+        }
+    }
+
+    /// A server sends no more. What it said is read to its end.
+    pub(crate) fn hear_end(&mut self, hub: usize, server: ServerId) {
+        let Some(place) = self.place(hub, server) else {
+            return;
+        };
+        if let Some(line) = self.lines.get_mut(place) {
+            line.ends = true;
+            self.hear(hub, server);
         }
     }
 
@@ -37,7 +66,11 @@ impl<'a, F: HubNames, G: Names, S: Sources> Loop<'a, F, G, S> {
                     return;
                 }
                 Took::Bytes(count) => {
-                    if !self.hear_piece(hub, server, place, count) || count < PIECE {
+                    let ends = match self.lines.get(place) {
+                        Some(line) => line.ends,
+                        None => false,
+                    };
+                    if !self.hear_piece(hub, server, place, count) || count < PIECE && !ends {
                         return;
                     }
                 }
@@ -64,7 +97,7 @@ impl<'a, F: HubNames, G: Names, S: Sources> Loop<'a, F, G, S> {
         };
         let mut landed = Vec::new(self.alloc);
         if post.arrivals.reserve(line.in_flight()).is_err() {
-            self.lose(hub, server, Loss::Idle);
+            self.lose(hub, server, Loss::Broken);
             return false;
         }
         let heard = line.hear(piece, &mut landed);
@@ -102,23 +135,40 @@ impl<'a, F: HubNames, G: Names, S: Sources> Loop<'a, F, G, S> {
         }
     }
 
-    /// Closes connections on which a reply didn't come in its time.
+    /// Whether some leg's time may have run out.
+    pub(crate) fn may_be_late(&self) -> bool {
+        match (self.late_at, self.now) {
+            (Some(at), Some(now)) => at <= now,
+            _ => false,
+        }
+    }
+
+    /// Closes connections on which a reply didn't come in its time, and notes when the next one may be late.
     pub(crate) fn expire_lines(&mut self) {
+        let mut longest = Duration::from_millis(0);
         for hub in 0..self.posts.len() {
             for server in 0..self.servers {
                 let server = ServerId(server);
                 let Some(place) = self.place(hub, server) else {
                     break;
                 };
-                let is_late = match self.lines.get(place) {
-                    Some(line) => has_passed(line.since(), self.now, self.limits.server),
-                    None => false,
+                let Some(line) = self.lines.get(place) else {
+                    break;
                 };
-                if is_late {
-                    self.lose(hub, server, Loss::Late);
+                match line.overdue(self.now, self.limits.server) {
+                    Some(loss) => self.lose(hub, server, loss),
+                    None => {
+                        if let Some(passed) = between(line.since(), self.now) {
+                            longest = longest.max(passed);
+                        }
+                    }
                 }
             }
         }
+        self.late_at = match (self.now, self.limits.server) {
+            (Some(now), Some(limit)) => now.checked_add(limit.saturating_sub(longest)),
+            _ => None,
+        };
     }
 
     /// Asks each marked server that has no connection whether it answers.
@@ -148,9 +198,15 @@ impl<'a, F: HubNames, G: Names, S: Sources> Loop<'a, F, G, S> {
         let Some(line) = self.lines.get_mut(place) else {
             return;
         };
-        if line.is_closed() && self.sources.connect(&self.pass, hub, server) {
-            let _ = line.probe(self.now);
+        if !line.is_closed() || !self.sources.connect(&self.pass, hub, server) {
+            return;
         }
+        if line.probe(self.now).is_err() {
+            let source = Source::Server { hub, server };
+            self.sources.close(&self.pass, source);
+            return;
+        }
+        self.note_due(hub, server);
     }
 
     /// Sends a leg over its connection, which is begun where there is none. Where it can't be it is lost.
@@ -179,16 +235,19 @@ impl<'a, F: HubNames, G: Names, S: Sources> Loop<'a, F, G, S> {
         if line.is_closed() && self.sources.connect(&self.pass, hub, flight.server) {
             line.open();
         }
-        line.send(flight, self.now, is_again)
+        let server = flight.server;
+        line.send(flight, self.now, is_again)?;
+        self.note_due(hub, server);
+        Ok(())
     }
 
     /// Writes what is to be written to servers, with one write for each connection.
     pub(crate) fn write_lines(&mut self) {
-        for hub in 0..self.posts.len() {
-            for server in 0..self.servers {
-                let server = ServerId(server);
-                self.write_line(hub, server);
-            }
+        for _line in 0..TURNS {
+            let Some((hub, server)) = self.due.pop() else {
+                return;
+            };
+            self.write_line(hub, server);
         }
     }
 
@@ -199,13 +258,13 @@ impl<'a, F: HubNames, G: Names, S: Sources> Loop<'a, F, G, S> {
         let Some(line) = self.lines.get_mut(place) else {
             return;
         };
-        if !line.is_due || line.is_full {
+        line.is_due = false;
+        if line.is_full {
             return;
         }
         let output = line.output();
         let length = output.len();
         if length == 0 {
-            line.is_due = false;
             return;
         }
         match self
@@ -213,10 +272,9 @@ impl<'a, F: HubNames, G: Names, S: Sources> Loop<'a, F, G, S> {
             .write(&self.pass, Source::Server { hub, server }, output)
         {
             Took::NotNow => line.is_full = true,
-            Took::Over => self.lose(hub, server),
+            Took::Over => self.lose(hub, server, Loss::Idle),
             Took::Bytes(count) => {
                 line.is_full = count < length;
-                line.is_due = count < length;
                 line.wrote(count);
             }
         }

@@ -20,6 +20,9 @@ pub(crate) const PIECE: usize = 16_384;
 /// The most pieces that are read in a row of one connection, so that others come too.
 pub(crate) const MOST_PIECES: usize = 16;
 
+/// The most turns in a row at a hub, so that others are read too.
+const MOST_TURNS: usize = 16;
+
 /// More turns than come.
 pub(crate) const TURNS: u64 = u64::MAX;
 
@@ -51,10 +54,14 @@ pub struct Loop<'a, F: HubNames, G: Names, S: Sources> {
     pub(crate) servers: u32,
     /// The connections to all servers, hub after hub.
     pub(crate) lines: Vec<Line>,
+    /// Connections that are to be written to.
+    pub(crate) due: Vec<(usize, ServerId)>,
     pub(crate) posts: Vec<Post>,
     pub(crate) ready: Vec<Ready>,
     pub(crate) room: Vec<u8>,
     pub(crate) now: Option<Instant>,
+    /// No leg's time runs out before this.
+    pub(crate) late_at: Option<Instant>,
     /// When all clients and marked servers were looked at last.
     pub(crate) ticked: Option<Instant>,
 }
@@ -108,10 +115,12 @@ impl<'a, F: HubNames, G: Names, S: Sources> Loop<'a, F, G, S> {
             touched: Vec::new(alloc),
             servers,
             lines,
+            due: Vec::new(alloc),
             posts,
             ready: Vec::new(alloc),
             room,
             now: None,
+            late_at: None,
             ticked: None,
         })
     }
@@ -145,14 +154,14 @@ impl<'a, F: HubNames, G: Names, S: Sources> Loop<'a, F, G, S> {
     }
 
     /// One round: what is ready is read, each hub that it is for is locked once or, where answers make further requests free, once
-    /// more, and what is to be written is.
+    /// more, up to a limit, and what is to be written is.
     pub fn round<R: Wait>(&mut self, rt: &R) -> Result<(), SourceFault> {
         let most = self.patience();
         self.sources.wait(&self.pass, most, &mut self.ready)?;
         self.now = self.sources.instant();
         self.take_ready();
         self.tick();
-        for _turn in 0..TURNS {
+        for _turn in 0..MOST_TURNS {
             self.serve_clients();
             if !self.turn_all(rt) {
                 break;
@@ -165,18 +174,24 @@ impl<'a, F: HubNames, G: Names, S: Sources> Loop<'a, F, G, S> {
 
     /// For how long nothing need be done before something is ready: until the nearest time of a leg runs out, and for a second at most.
     pub(crate) fn patience(&self) -> Option<Duration> {
-        if !self.ready.is_empty() || !self.touched.is_empty() {
+        if !self.ready.is_empty() || !self.touched.is_empty() || self.is_turn_due() {
             return Some(Duration::from_millis(0));
         }
-        let mut most = Duration::from_millis(TICK);
-        if let Some(limit) = self.limits.server {
-            for line in self.lines.iter() {
-                if let Some(passed) = between(line.since(), self.now) {
-                    most = most.min(limit.saturating_sub(passed));
-                }
+        let most = Duration::from_millis(TICK);
+        match between(self.now, self.late_at) {
+            Some(left) => Some(most.min(left)),
+            None => Some(most),
+        }
+    }
+
+    /// Whether some hub has something to be told.
+    fn is_turn_due(&self) -> bool {
+        for hub in 0..self.posts.len() {
+            if self.is_due_at(hub) {
+                return true;
             }
         }
-        Some(most)
+        false
     }
 
     /// Does what is ready.
@@ -189,6 +204,8 @@ impl<'a, F: HubNames, G: Names, S: Sources> Loop<'a, F, G, S> {
                 Ready::Read(Source::Server { hub, server }) => self.hear(hub, server),
                 Ready::Write(Source::Client(number)) => self.note_taking(number),
                 Ready::Write(Source::Server { hub, server }) => self.note_line(hub, server),
+                Ready::End(Source::Client(number)) => self.note_ending(number),
+                Ready::End(Source::Server { hub, server }) => self.hear_end(hub, server),
                 Ready::Stored { hub, stored } => self.note_stored(hub, stored),
             }
         }

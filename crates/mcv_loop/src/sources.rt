@@ -27,6 +27,8 @@ pub enum Ready {
     Read(Source),
     /// Bytes can be written.
     Write(Source),
+    /// The other side sends no more: what is left is to be read to its end.
+    End(Source),
     /// The spool has answered to a record, for the hub of this number.
     Stored { hub: usize, stored: StoredLeg },
 }

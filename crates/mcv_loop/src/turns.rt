@@ -9,12 +9,14 @@ use std::sync::Wait;
 use std::time::Duration;
 
 impl<'a, F: HubNames, G: Names, S: Sources> Loop<'a, F, G, S> {
-    /// Whether a second has passed since it did so last; then servers and clients are looked at whose time has run out, and marked
-    /// servers are probed.
+    /// Closes connections to servers whose time has run out. Once a second clients are looked at too, and marked servers are probed.
     pub(crate) fn tick(&mut self) {
-        self.expire_lines();
         let tick = Some(Duration::from_millis(TICK));
-        if self.ticked.is_some() && !has_passed(self.ticked, self.now, tick) {
+        let is_tick = self.ticked.is_none() || has_passed(self.ticked, self.now, tick);
+        if is_tick || self.may_be_late() {
+            self.expire_lines();
+        }
+        if !is_tick {
             return;
         }
         self.ticked = self.now;
@@ -46,15 +48,19 @@ impl<'a, F: HubNames, G: Names, S: Sources> Loop<'a, F, G, S> {
         }
     }
 
+    /// Whether a hub has something to be told.
+    pub(crate) fn is_due_at(&self, hub: usize) -> bool {
+        match self.posts.get(hub) {
+            Some(post) => post.is_due() || self.desks.is_asked(hub),
+            None => false,
+        }
+    }
+
     /// Makes a turn at each hub that has something to be told. Whether one had.
     pub(crate) fn turn_all<R: Wait>(&mut self, rt: &R) -> bool {
         let mut was_due = false;
         for hub in 0..self.posts.len() {
-            let is_due = match self.posts.get(hub) {
-                Some(post) => post.is_due(),
-                None => false,
-            };
-            if is_due || self.desks.is_asked(hub) {
+            if self.is_due_at(hub) {
                 self.turn(rt, hub);
                 was_due = true;
             }

@@ -122,17 +122,22 @@ impl Memory {
                 client.is_known = true;
                 ready.push(Ready::Client(number)).ok()?;
             }
-            if !client.is_closed && (!client.sends.is_empty() || client.goes) {
+            if !client.is_closed && !client.sends.is_empty() {
                 ready.push(Ready::Read(Source::Client(number))).ok()?;
+            }
+            if !client.is_closed && client.goes {
+                ready.push(Ready::End(Source::Client(number))).ok()?;
             }
         }
         for wire in self.wires.iter() {
             let says = !wire.hangs && !wire.memcached.says.is_empty();
-            if wire.ends || wire.is_open && (says || !wire.is_up) {
-                let (hub, server) = (wire.hub, wire.server);
-                ready
-                    .push(Ready::Read(Source::Server { hub, server }))
-                    .ok()?;
+            let (hub, server) = (wire.hub, wire.server);
+            let source = Source::Server { hub, server };
+            if wire.is_open && says {
+                ready.push(Ready::Read(source)).ok()?;
+            }
+            if wire.ends || wire.is_open && !wire.is_up {
+                ready.push(Ready::End(source)).ok()?;
             }
         }
         Some(())
