@@ -1,5 +1,5 @@
 -- The hub of a key, and what a desk answers where all keys of a request have one.
-use Rattle.std.proofs.Common.{◌≡◌, ◌∙◌, ◌<◌, ◌≤◌, ℕ, suc, List, [], ◌∷◌, Option, None, Some, Result, Ok, Err, inl, inr, ap, arith, length, refl, subst, sym}
+use Rattle.std.proofs.Common.{◌≡◌, ◌∙◌, ◌++◌, ◌<◌, ◌≤◌, ℕ, zero, suc, List, [], ◌∷◌, Option, None, Some, Result, Ok, Err, inl, inr, ap, arith, length, refl, subst, sym}
 use Rattle.std.specs.Prelude.{option_map, slice_get}
 use Rattle.std.specs.List.{All}
 use Rattle.std.proofs.lemmas.List.Elements.{All-cons, All-get_or, All-nil}
@@ -96,3 +96,17 @@ module _ (opened_of : ℕ → CoreView) (hubs hub : ℕ) (request : RequestValue
         replies_are = by.replies_are;
       }
   asked_one_hub (Err fault) h = inr (inl (record { hub = hub; there = there; have = have; asked = h }))
+
+-- ---- requests, one for each key
+
+-- nothing is in an empty list
+pub no_item : {X Z : Type 0} (xs : List X) (k : ℕ) (x : X) → xs ≡ [] → slice_get xs k ≡ Some x → Z
+no_item [] k x e there = no_some there
+no_item (y ∷ ys) k x e there = cc
+
+-- one more, at the end
+pub at_push : {X : Type 0} (P : ℕ → X → Type 0) (xs : List X) (n : ℕ) (x : X) → length xs ≡ n → ((k : ℕ) (y : X) → slice_get xs k ≡ Some y → P k y) → P n x → (k : ℕ) (y : X) → slice_get (xs ++ x ∷ []) k ≡ Some y → P k y
+at_push P [] n x len all here zero y e = let at : P zero x = subst (λ m. P m x) (sym len) here in subst (P zero) (same_some e) at
+at_push P [] n x len all here (suc k) y e = no_some e
+at_push P (z ∷ zs) n x len all here zero y e = all zero y e
+at_push P (z ∷ zs) n x len all here (suc k) y e = at_push (λ m w. P (suc m) w) zs (length zs) x refl (λ m w same. all (suc m) w same) (subst (λ m. P m x) (sym len) here) k y e
