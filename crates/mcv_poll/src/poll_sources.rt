@@ -31,6 +31,9 @@ const EVENTS: usize = 1_024;
 /// The most clients that are accepted in a row.
 const MOST_ACCEPTED: usize = 256;
 
+/// The most that becomes ready in one wait, but for the spool's answers.
+const MOST_READY: usize = 2 * EVENTS + MOST_ACCEPTED;
+
 /// Sockets that don't wait, and the spool's mailbox.
 #[derive(Drop)]
 pub struct PollSources<R: Net + Clock + Wait + Copy + Drop> {
@@ -38,6 +41,10 @@ pub struct PollSources<R: Net + Clock + Wait + Copy + Drop> {
     poll: Poll,
     events: Events,
     listener: TcpListener,
+    /// Clients may wait that weren't accepted.
+    accepts: bool,
+    /// So many were accepted in a row that more are likely.
+    is_more: bool,
     clients: HashMap<u64, TcpStream>,
     /// The number of the next client.
     next: u64,
@@ -85,6 +92,8 @@ impl<R: Net + Clock + Wait + Copy + Drop> PollSources<R> {
             poll,
             events: Events::with_capacity(alloc, EVENTS)?,
             listener,
+            accepts: false,
+            is_more: false,
             clients: HashMap::new(alloc),
             next: 0,
             lines,
@@ -113,14 +122,22 @@ impl<R: Net + Clock + Wait + Copy + Drop> PollSources<R> {
         })
     }
 
-    /// Accepts the clients that wait. One that can't be registered is dropped.
+    /// Accepts the clients that wait, up to a limit. One that can't be registered is dropped; while none can be accepted, for want of
+    /// descriptors, it is tried again with each wait.
     fn accept(&mut self, ready: &mut Vec<Ready>) {
+        self.is_more = false;
         for _client in 0..MOST_ACCEPTED {
-            let Ok((stream, _address)) = self.listener.accept() else {
-                return;
-            };
-            let _ = self.admit(stream, ready);
+            match self.listener.accept() {
+                Ok((stream, _address)) => {
+                    let _ = self.admit(stream, ready);
+                }
+                Err(error) => {
+                    self.accepts = error.kind() != ErrorKind::WouldBlock;
+                    return;
+                }
+            }
         }
+        self.is_more = true;
     }
 
     fn admit(&mut self, stream: TcpStream, ready: &mut Vec<Ready>) -> io::Result<()> {
@@ -144,30 +161,28 @@ impl<R: Net + Clock + Wait + Copy + Drop> PollSources<R> {
 
     /// What the events say is ready.
     fn look(&mut self, ready: &mut Vec<Ready>) -> Result<(), AllocError> {
-        let mut accepts = false;
         for event in self.events.iter() {
             let token = event.token().0;
             if token == LISTENER {
-                accepts = true;
+                self.accepts = true;
                 continue;
             }
             let Some(source) = self.source_of(token) else {
                 continue;
             };
-            if event.is_readable() || event.is_error() || event.is_read_closed() {
+            if event.is_error() || event.is_read_closed() {
+                ready.push(Ready::End(source))?;
+            } else if event.is_readable() {
                 ready.push(Ready::Read(source))?;
             }
             if event.is_writable() {
                 ready.push(Ready::Write(source))?;
             }
         }
-        if accepts {
+        if self.accepts {
             self.accept(ready);
         }
-        for (hub, stored) in self.mailbox.answers(&self.rt) {
-            ready.push(Ready::Stored { hub, stored })?;
-        }
-        Ok(())
+        self.mailbox.take_answers(&self.rt, ready)
     }
 
     /// Begins a connection to the first address of a server that takes one.
@@ -189,6 +204,14 @@ impl<R: Net + Clock + Wait + Copy + Drop> Sources for PollSources<R> {
         most: Option<Duration>,
         ready: &mut Vec<Ready>,
     ) -> Result<(), SourceFault> {
+        if ready.reserve(MOST_READY).is_err() {
+            return Err(SourceFault::Memory);
+        }
+        let most = if self.is_more {
+            Some(Duration::from_millis(0))
+        } else {
+            most
+        };
         if self.poll.poll(&mut self.events, most).is_err() {
             return Err(SourceFault::Failed);
         }

@@ -1,10 +1,10 @@
 //! The thread of the spool.
 
+use mcv_loop::Ready;
 use mcv_spool::{Disk, Spool};
 use mcv_turn::{HeldLeg, StoredLeg};
 use mio::Waker;
-use std::alloc::Global;
-use std::mem;
+use std::alloc::{AllocError, Global};
 use std::sync::{Condvar, Mutex, Wait};
 
 /// What the spool's thread is to do.
@@ -25,8 +25,10 @@ struct Letters {
     held: Vec<(usize, HeldLeg)>,
     /// The numbers of records that are done.
     performed: Vec<u64>,
-    /// What the spool answered.
+    /// What the spool answered. There is room for all answers that are owed.
     stored: Vec<(usize, StoredLeg)>,
+    /// How many records were sent that aren't answered.
+    owed: usize,
     /// The thread is to end.
     ends: bool,
 }
@@ -34,7 +36,6 @@ struct Letters {
 /// Where a loop and the spool's thread leave letters for each other.
 #[derive(Drop)]
 pub struct Mailbox {
-    alloc: Global,
     letters: Mutex<Letters>,
     bell: Condvar,
     waker: Waker,
@@ -44,11 +45,11 @@ impl Mailbox {
     /// No letters. Whoever answers wakes the loop by this.
     pub fn new(alloc: Global, waker: Waker) -> Mailbox {
         Mailbox {
-            alloc,
             letters: Mutex::new(Letters {
                 held: Vec::new(alloc),
                 performed: Vec::new(alloc),
                 stored: Vec::new(alloc),
+                owed: 0,
                 ends: false,
             }),
             bell: Condvar::new(),
@@ -56,11 +57,16 @@ impl Mailbox {
         }
     }
 
-    /// The record of a leg is to be written. Whether there was memory for that.
+    /// The record of a leg is to be written. Whether there was memory for that, and for the answer.
     pub(crate) fn send<R: Wait>(&self, rt: &R, hub: usize, held: HeldLeg) -> bool {
-        let is_sent = self.letters.lock(rt).held.push((hub, held)).is_ok();
+        let mut letters = self.letters.lock(rt);
+        let owed = letters.owed.saturating_add(1);
+        if letters.stored.reserve(owed).is_err() || letters.held.push((hub, held)).is_err() {
+            return false;
+        }
+        letters.owed = owed;
         self.bell.notify_one();
-        is_sent
+        true
     }
 
     /// The record of this number is done. Without memory for that it is pending until the next start.
@@ -69,9 +75,18 @@ impl Mailbox {
         self.bell.notify_one();
     }
 
-    /// What the spool has answered since it was asked last.
-    pub(crate) fn answers<R: Wait>(&self, rt: &R) -> Vec<(usize, StoredLeg)> {
-        mem::replace(&mut self.letters.lock(rt).stored, Vec::new(self.alloc))
+    /// Puts what the spool has answered behind `ready`. Without memory for that all of it stays.
+    pub(crate) fn take_answers<R: Wait>(
+        &self,
+        rt: &R,
+        ready: &mut Vec<Ready>,
+    ) -> Result<(), AllocError> {
+        let mut letters = self.letters.lock(rt);
+        ready.reserve(letters.stored.len())?;
+        while let Some((hub, stored)) = letters.stored.pop() {
+            ready.push(Ready::Stored { hub, stored })?;
+        }
+        Ok(())
     }
 
     /// The spool's thread is to end.
@@ -98,11 +113,12 @@ impl Mailbox {
         unreachable!()
     }
 
-    /// The spool has answered. Whether there was memory for that.
-    fn answer<R: Wait>(&self, rt: &R, hub: usize, stored: StoredLeg) -> bool {
-        let is_left = self.letters.lock(rt).stored.push((hub, stored)).is_ok();
+    /// The spool has answered. There is room for it, so that it can't fail.
+    fn answer<R: Wait>(&self, rt: &R, hub: usize, stored: StoredLeg) {
+        let mut letters = self.letters.lock(rt);
+        letters.owed = letters.owed.saturating_sub(1);
+        let _ = letters.stored.push((hub, stored));
         let _ = self.waker.wake();
-        is_left
     }
 }
 
@@ -117,9 +133,7 @@ pub fn serve_spool<D: Disk, R: Wait>(rt: &R, spool: &mut Spool<D>, mailbox: &Mai
                 if outcome.is_err() {
                     let _ = spool.reopen();
                 }
-                if !mailbox.answer(rt, hub, StoredLeg { leg, outcome }) {
-                    return;
-                }
+                mailbox.answer(rt, hub, StoredLeg { leg, outcome });
             }
             Task::Finish(number) => {
                 let _ = spool.done(number);
