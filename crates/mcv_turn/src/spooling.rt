@@ -1,6 +1,6 @@
 //! Deletes that their servers didn't perform, on their way into the spool.
 
-ghost use Rattle.std.specs.Prelude.{◌≡◌, ◌↔◌, None, Some, IfErr, IfNone, IfOk, IfSome, IsTrue, OnErr};
+ghost use Rattle.std.specs.Prelude.{◌≡◌, ◌↔◌, false, None, Some, IfErr, IfNone, IfOk, IfSome, IsTrue, OnErr};
 ghost use Rattle.mcv_core.specs.Events.{IsRefusedLeg, IsSpooledLeg};
 ghost use Rattle.mcv_core.specs.Readers.{IsFirstHeld};
 ghost use Rattle.mcv_core.specs.View.{core_view};
