@@ -218,17 +218,19 @@ impl<'a, B: HubLedger, T: Ledger> LoopDesk<'a, B, T> {
     ) -> bool
         ensures { SendsMore guard.old guard.new gives.old.flights.items gives.new.flights.items }
     {
+        let was_at_rest = guard.core().is_at_rest();
         let is_open = self.open_gate(guard, waited, &mut gives.past);
         self.enter(guard, is_open);
         self.send_all(guard, &mut gives.flights);
         self.hold(guard, may_store, &mut gives.held);
         self.take_all(guard);
-        self.is_over(guard.core(), is_open)
+        self.is_over(guard.core(), is_open, was_at_rest)
     }
 
-    /// Whether nothing is to be done before something comes: no request waits to begin, or they may not, and what runs will end.
-    fn is_over(&self, core: &Dispatcher, is_open: bool) -> bool {
-        self.entering.is_empty() || !is_open && !core.is_at_rest()
+    /// Whether nothing is to be done before something comes: no request waits to begin, or they may not, and what runs will end, or
+    /// nothing ran as the gate was looked at.
+    fn is_over(&self, core: &Dispatcher, is_open: bool, was_at_rest: bool) -> bool {
+        self.entering.is_empty() || !is_open && (was_at_rest || !core.is_at_rest())
     }
 
     /// Takes the marks of servers away that answer again.
