@@ -429,7 +429,7 @@ impl<'a, B: HubLedger, T: Ledger> LoopDesk<'a, B, T> {
             return;
         }
         match take_again(self.alloc, guard, server) {
-            Ok(Departure::Sent(flight)) => flights.push_reserved(flight),
+            Ok(Departure::Sent(again)) => flights.push_reserved(again),
             Ok(Departure::Lost { leg: _, call: _ }) => {}
             Err(_) => {}
         }
