@@ -48,3 +48,6 @@ loop-done-preserved g c =
             begun = search rules;
           }
     ]
+
+pub returns-in-Ok-None-clause-runs : goal.returns-in-Ok-None-clause-runs
+returns-in-Ok-None-clause-runs g c = quiet c.args.guard.now c.loop-done.guard c.take_one.new.guard c.loop-done.invariant.run c.take_one.ensures.runs

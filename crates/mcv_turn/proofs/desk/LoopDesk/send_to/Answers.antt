@@ -14,8 +14,8 @@ loop-leg-preserved g c =
     let before = c.args.flights.now.items in
     let now = c.loop-leg.flights.items in
     let next = c.take_next.new.guard in
-    let after = c.match-take_next.flights.items in
-    elim c.match-take_next.branch [
+    let after = c.match-take_next-2.flights.items in
+    elim c.match-take_next-2.branch [
       | in-Ok-Sent w ↦
           let items : after ≡ now ++ w.in-Ok-Sent.flight ∷ [] = ap (λ v. v.items) w.flights-is ∙ w.push_reserved.ensures.items ∙ ap (λ (t : List Flight). t ++ w.in-Ok-Sent.flight ∷ []) c.reserve.ensures.items in
           one_sent start c.loop-leg.guard next before now after c.args.server w.in-Ok-Sent.flight c.loop-leg.invariant (rw w.in-Ok-Sent.field-0-is at w.in-Ok-Sent.ensures.departs) items

@@ -9,15 +9,21 @@ use Rattle.mcv_turn.specs.Runs.{nothing}
 use Rattle.mcv_turn.proofs.Taken.{taken_before}
 use Rattle.mcv_turn.proofs.question.Question.begin.Goals as goal
 
-pub begin_each-requires : goal.begin_each-requires
-begin_each-requires g c = record {
+pub begin_each-begun-requires : goal.begin_each-begun-requires
+begin_each-begun-requires g c = record {
   began = c.self.invariant.begun;
   room = omega (arith, c.next_limit-to.ensures, c.self.invariant.calls_room);
   more = omega arith;
 }
 
-pub invariant_of-self-in-Ok : goal.invariant_of-self-in-Ok
-invariant_of-self-in-Ok g c =
+pub returns-in-Some : goal.returns-in-Some
+returns-in-Some g c = nothing c.args.guard.now
+
+pub returns-then-to-len : goal.returns-then-to-len
+returns-then-to-len g c = nothing c.args.guard.now
+
+pub invariant_of-self : goal.invariant_of-self
+invariant_of-self g c =
     let start = g.B.HubLedger.opened in
     let q = c.self.inside in
     let request = request_value (arc_value q.request) in

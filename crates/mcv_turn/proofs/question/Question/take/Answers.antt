@@ -3,8 +3,8 @@ use Rattle.mcv_base.specs.declared.request.CallId.{CallId}
 use Rattle.mcv_turn.specs.Answers.{AreTaken}
 use Rattle.mcv_turn.proofs.question.Question.take.Goals as goal
 
-pub take_ready-requires : goal.take_ready-requires
-take_ready-requires g c =
+pub take_ready-came-requires : goal.take_ready-came-requires
+take_ready-came-requires g c =
     let q = c.self.inside in
     let P : List CallId → Type 0 = λ xs. AreTaken g.B.HubLedger.opened xs q.progress.done q.progress.missed q.taken.items in
     record { so_far = subst P (sym c.as_slice-calls.ensures.value) c.self.invariant.so_far; room = search rules }
