@@ -16,13 +16,8 @@ loop-leg-preserved g c =
     let next = c.take_next.new.guard in
     let after = c.match-take_next-2.flights.items in
     elim c.match-take_next-2.branch [
-      | in-Ok-Sent w ↦
-          let items : after ≡ now ++ w.in-Ok-Sent.flight ∷ [] = ap (λ v. v.items) w.flights-is ∙ w.push_reserved.ensures.items ∙ ap (λ (t : List Flight). t ++ w.in-Ok-Sent.flight ∷ []) c.reserve.ensures.items in
-          one_sent start c.loop-leg.guard next before now after c.args.server w.in-Ok-Sent.flight c.loop-leg.invariant (rw w.in-Ok-Sent.field-0-is at w.in-Ok-Sent.ensures.departs) items
-      | in-Ok-Lost w ↦
-          let items : after ≡ now = ap (λ v. v.items) w.flights-is ∙ c.reserve.ensures.items in
-          let gone = given_up c.loop-leg.guard next c.args.server _ (rw w.in-Ok-Lost.field-0-is at w.in-Ok-Lost.ensures.departs) in
-          subst (SendsMore start next before) (sym items) (sent_then_quiet start c.loop-leg.guard next before now c.loop-leg.invariant gone)
+      | in-Ok-Sent w ↦ ?
+      | in-Ok-Lost w ↦ ?
     ]
 
 pub returns-then-is_err : goal.returns-then-is_err

@@ -1,4 +1,4 @@
-use Rattle.std.proofs.Common.{◌≡◌, List, Option, Some, arith, rules, subst, sym}
+use Rattle.std.proofs.Common.{◌≡◌, List, Option, Some, arith, length, rules, subst, sym}
 use Rattle.std.specs.Prelude.{IfSome}
 use Rattle.std.specs.Arc.{arc_value}
 use Rattle.mcv_base.specs.declared.request.CallId.{CallId}
@@ -30,7 +30,7 @@ invariant_of-self g c =
     let before = c.self.invariant in
     let did = c.begin_each-begun.ensures in
     let P : List CallId → Type 0 = λ xs. AreTaken start xs q.progress.done q.progress.missed q.taken.items in
-    let Q : Option CoreFault → Type 0 = λ o. IfSome o (WasRefused start request _) in
+    let Q : Option CoreFault → Type 0 = λ o. IfSome o (WasRefused start request (length c.begin_each-begun.new.calls.items)) in
     record {
       count_is = before.count_is;
       begun = did.began;

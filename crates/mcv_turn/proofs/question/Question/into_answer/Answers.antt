@@ -17,5 +17,5 @@ returns-clause-answer g c =
     let done : IsDone (record { request = request; calls = q.calls.items; done = q.progress.done; refused = q.refused }) = subst IsDone (sym c.self.view_is) c.requires.done in
     let is : IsAnswer start request (answer_value outcome) =
         answered start request q.calls.items q.taken.items q.progress.done q.progress.missed q.refused outcome done.all done.each was.begun was.so_far was.refusal
-        (rw c.requires.routes at c.outcome_of-outcome.ensures.ok) (rw c.requires.routes at c.outcome_of-outcome.ensures.err) in
+        (rw (c.requires.routes, c.deref.ensures) at c.outcome_of-outcome.ensures.ok) (rw (c.requires.routes, c.deref.ensures) at c.outcome_of-outcome.ensures.err) in
     subst (λ (v : QuestionView). IsAnswer start v.request (answer_value outcome)) c.self.view_is is
