@@ -1,7 +1,7 @@
 //! The desk of a loop at one hub.
 
 ghost use Rattle.slab.specs.Slab.{get};
-ghost use Rattle.std.specs.Prelude.{◌≡◌, ◌||◌, [], ◌∷◌, true, IfSome, not};
+ghost use Rattle.std.specs.Prelude.{◌≡◌, ◌<◌, ◌||◌, [], ◌∷◌, true, IfSome, not, vec_capacity, vec_len};
 ghost use Rattle.std.specs.Arc.{arc_value};
 ghost use Rattle.mcv_hub.specs.Gate.{IsGate, is_closed};
 ghost use Rattle.mcv_hub.specs.declared.gate.Gate.{Gate as HubGate};
@@ -450,16 +450,35 @@ impl<'a, B: HubLedger, T: Ledger> LoopDesk<'a, B, T> {
                 self.servers.note_due(server);
                 return false;
             }
-            match take_next(self.alloc, guard, server) {
-                Ok(Departure::Sent(flight)) => flights.push_reserved(flight),
-                Ok(Departure::Lost { leg: _, call }) => {
-                    self.note_mark(guard.core(), server);
-                    self.note_call(guard.core(), call);
-                }
-                Err(_) => return true,
+            if !self.send_one(guard, server, flights) {
+                return true;
             }
         }
         true
+    }
+
+    /// Puts the first leg that waits for a server in flight, or takes note that it is lost. Whether there was one that may be.
+    fn send_one(
+        &mut self,
+        guard: &mut Guard<'_, B, T>,
+        server: ServerId,
+        flights: &mut Vec<Flight>,
+    ) -> bool
+        requires room { vec_len flights.old < vec_capacity flights.old }
+        ensures { SendsMore guard.old guard.new flights.old.items flights.new.items }
+    {
+        match take_next(self.alloc, guard, server) {
+            Ok(Departure::Sent(flight)) => {
+                flights.push_reserved(flight);
+                true
+            }
+            Ok(Departure::Lost { leg: _, call }) => {
+                self.note_mark(guard.core(), server);
+                self.note_call(guard.core(), call);
+                true
+            }
+            Err(_) => false,
+        }
     }
 
     /// Gives the leg out whose record is to be written next. Where the spool isn't to be asked, held legs of which their calls have no

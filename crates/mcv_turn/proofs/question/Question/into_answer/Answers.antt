@@ -16,6 +16,6 @@ returns-clause-answer g c =
     let outcome = c.outcome_of-outcome.result in
     let done : IsDone (record { request = request; calls = q.calls.items; done = q.progress.done; refused = q.refused }) = subst IsDone (sym c.self.view_is) c.requires.done in
     let is : IsAnswer start request (answer_value outcome) =
-        answered start request q.calls.items q.taken.items q.progress.done q.progress.missed q.refused outcome done.all done.each was.begun was.so_far was.refusal
-        (rw (c.requires.routes, c.deref.ensures) at c.outcome_of-outcome.ensures.ok) (rw (c.requires.routes, c.deref.ensures) at c.outcome_of-outcome.ensures.err) in
+    answered start request q.calls.items q.taken.items q.progress.done q.progress.missed q.refused outcome done.all done.each was.begun was.so_far was.refusal
+    (rw (c.requires.routes, c.deref.ensures) at c.outcome_of-outcome.ensures.ok) (rw (c.requires.routes, c.deref.ensures) at c.outcome_of-outcome.ensures.err) in
     subst (λ (v : QuestionView). IsAnswer start v.request (answer_value outcome)) c.self.view_is is
