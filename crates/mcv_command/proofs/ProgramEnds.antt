@@ -1,9 +1,9 @@
 -- What the program did, by what the words asked for.
-use Rattle.std.proofs.Common.{◌≡◌, ◌≢◌, ◌∙◌, ap, inl, inr, refl, ◌+◌, ◌<◌, ◌≤◌, ℕ, Bool, true, false, List, length, take, Option, None, Some, Result, Err, subst, sym, arith}
-use Rattle.std.specs.Prelude.{IfErr, IfSome, MatchOption}
+use Rattle.std.proofs.Common.{◌≡◌, ◌≢◌, ◌∙◌, ap, inl, inr, refl, ◌+◌, ◌<◌, ◌≤◌, ℕ, Bool, true, false, List, [], length, take, true≢false, Option, None, Some, Result, Ok, Err, subst, sym, arith}
+use Rattle.std.specs.Prelude.{IfErr, IfSome, MatchOption, bytes_eq, codes}
 use Rattle.std.proofs.lemmas.List.{length-take}
 use Rattle.std.proofs.lemmas.Option.{IfSome_then}
-use Rattle.clap.specs.Words.{Text}
+use Rattle.clap.specs.Words.{Row, Text, one_of}
 use Rattle.mcv_cert.specs.Reading.{Reading, Says, headless, over, reads, text_limit}
 use Rattle.mcv_input.proofs.FirstBytes.{whole}
 use Rattle.mcv_input.specs.Fault.{IsOutside}
@@ -14,7 +14,9 @@ use Rattle.mcv_input.specs.declared.fault.RunFault.TheVariants.{Line, NoRoute, C
 use Rattle.mcv_mend.specs.Mending.{IsMendFault}
 use Rattle.mcv_mend.specs.declared.fault.MendFault.{MendFault}
 use Rattle.mcv_mend.specs.declared.fault.MendFault.TheVariants as mend_faults
-use Rattle.mcv_show.specs.Explained.{IsExplainedOn, IsVerdictAs, IsVerdictIf}
+use Rattle.mcv_show.specs.AsAsked.{IsVerdictAs, IsVerdictIf}
+use Rattle.mcv_show.specs.Explained.{IsExplainedOn}
+use Rattle.mcv_show.specs.Reported.{IsReportedOn}
 use Rattle.mcv_verdict.specs.Fault as check
 use Rattle.mcv_verdict.specs.Verdict.{IsVerdictOn}
 use Rattle.mcv_verdict.specs.declared.verdict.Verdict.{Verdict}
@@ -22,9 +24,9 @@ use Rattle.mcv_verdict.specs.declared.verdict.Verdict.TheVariants.{Covered, Lost
 use Rattle.mcv_command.specs.declared.stop.Ending.{Ending}
 use Rattle.mcv_command.specs.declared.stop.Stop.{Stop}
 use Rattle.mcv_command.specs.declared.stop.Stop.TheVariants.{BadLine, Mended, NoChange, Run, Damaged}
-use Rattle.mcv_command.specs.Program.{Held, IfGiven, IsJudgingFault, IsListingStop, IsMendingStop, IsStop}
+use Rattle.mcv_command.specs.Program.{AsksAnyRun, AsksAnySpool, AsksReport, GivesJson, Held, IfGiven, IsDrawingStop, IsJudgingFault, IsListingStop, IsMendingStop, IsReportedStop, IsStop}
 use Rattle.mcv_command.specs.Stop.{of_records, stop_of_mending}
-use Rattle.mcv_words.specs.Words.{AsksCheck, AsksMend, AsksRun, AsksSpool, RunOrder, SpoolOrder}
+use Rattle.mcv_words.specs.Words.{AsksCheck, AsksDraw, AsksMend, AsksRun, AsksSpool, RunOrder, SpoolOrder, named}
 use Rattle.mcv_words.specs.declared.options.CheckOptions.{CheckOptions}
 
 -- ---- the faults of a verdict, as the program's
@@ -41,9 +43,50 @@ pub running_stop : (words : List Text) (held : Held) (input : Option Text) (orde
     → IsJudgingFault held None order.settings.window.seconds input stop → IsStop words held input stop
 running_stop words held input order BadLine asks holds = absurd holds
 running_stop words held input order (Damaged slot) asks holds = absurd holds
-running_stop words held input order (Run fault) asks holds = inr (inr (inr (inr (order, asks, holds))))
+running_stop words held input order (Run fault) asks holds = inr (inr (inr (inr (inl (order, asks, holds)))))
 running_stop words held input order (Mended fault) asks holds = absurd holds
 running_stop words held input order NoChange asks holds = absurd holds
+
+-- a call that writes nothing on a fault where no report is asked for writes nothing where the words ask for none
+pub silent_unless_json : {T : Type 0} (words : List Text) (json : Bool) (r : Result T Stop) (Same : Type 0) → (json ≡ true → AsksReport words)
+    → (json ≡ false → IfErr r (λ stop. stop ≢ Run Device → Same))
+    → IfErr r (λ stop. stop ≢ Run Device → (stop ≡ Run Memory → ¬ AsksAnyRun words) → ¬ AsksAnySpool words → ¬ AsksReport words → Same)
+silent_unless_json words json (Ok x) Same asks silent = tt
+silent_unless_json words true (Err stop) Same asks silent = λ no_device unasked unlisted unreported. absurd (unreported (asks refl))
+silent_unless_json words false (Err stop) Same asks silent = λ no_device unasked unlisted unreported. silent refl no_device
+
+-- ---- a report in place of a verdict
+
+-- a fault of a run that was reported
+pub reported_stop : (input old new : Option Text) (stop : Stop) (fault : RunFault) → stop ≡ Run fault → IsReportedStop input old new (Run fault) → IsReportedStop input old new stop
+reported_stop input old new stop fault is holds = subst (λ (s : Stop). IsReportedStop input old new s) (sym is) holds
+
+-- where memory ran out or a device failed, nothing is said of a report
+pub outside_unreported : (input old new : Option Text) (stop : Stop) (fault : RunFault) → stop ≡ Run fault → IsOutside fault → IsReportedStop input old new stop
+outside_unreported input old new stop fault is (inl memory) = reported_stop input old new stop fault is (λ no_memory no_device. absurd (no_memory memory))
+outside_unreported input old new stop fault is (inr device) = reported_stop input old new stop fault is (λ no_memory no_device. absurd (no_device device))
+
+-- the values of the command
+abbrev rows_of : Option (Text × List Row) → List Row
+rows_of None = []
+rows_of (Some command) = command.1
+
+-- the command is `check`
+abbrev is_check : Option (Text × List Row) → Bool
+is_check None = false
+is_check (Some command) = bytes_eq command.0 (codes "check")
+
+-- words that give `--json` ask for a report
+pub json_asked : (words : List Text) (cert : Option Text) (options : CheckOptions) → AsksCheck words cert options → GivesJson words → options.json ≡ true
+json_asked words cert options asks gives =
+    let same : gives.1 ≡ asks.1 = ap rows_of (sym gives.2 ∙ asks.2) in
+    let values = asks.3 in
+    let json = values.3 in
+    json.0 (subst (λ (rows : List Row). one_of (codes "json") rows ≡ Some (codes "true")) same gives.3)
+
+-- .. and name no other command
+pub json_of_check : (words : List Text) (name : Text) (rows : List Row) → GivesJson words → named words ≡ Some (name, rows) → bytes_eq name (codes "check") ≡ false → ⊥
+json_of_check words name rows gives is other = true≢false (ap is_check (sym gives.2 ∙ is) ∙ other)
 
 -- ---- what isn't mended
 
@@ -58,6 +101,15 @@ mending_stop words held input patch (Damaged slot) asks holds = absurd holds
 mending_stop words held input patch (Run fault) asks holds = inr (inr (inr (inl (patch, asks, holds))))
 mending_stop words held input patch (Mended fault) asks holds = (patch, asks, holds)
 mending_stop words held input patch NoChange asks holds = (patch, asks, holds)
+
+-- ---- what isn't drawn
+
+pub drawing_stop : (words : List Text) (held : Held) (input : Option Text) (is_dot : Bool) (stop : Stop) → AsksDraw words is_dot → IsDrawingStop input stop → IsStop words held input stop
+drawing_stop words held input is_dot BadLine asks holds = absurd holds
+drawing_stop words held input is_dot (Damaged slot) asks holds = absurd holds
+drawing_stop words held input is_dot (Run fault) asks holds = inr (inr (inr (inr (inr (is_dot, asks, holds)))))
+drawing_stop words held input is_dot (Mended fault) asks holds = absurd holds
+drawing_stop words held input is_dot NoChange asks holds = absurd holds
 
 -- ---- a run's faults
 
@@ -108,6 +160,10 @@ judged_whole result held cert window input slot holds damaged = subst (λ (r : R
 pub mended_whole : (result : Result Ending Stop) (input : Option Text) (slot : ℕ) → IfErr result (IsMendingStop input) → result ≡ Err (Damaged slot) → ⊥
 mended_whole result input slot holds damaged = subst (λ (r : Result Ending Stop). IfErr r (IsMendingStop input)) damaged holds
 
+-- .. nor is one of a configuration that isn't drawn
+pub drawn_whole : (result : Result Ending Stop) (input : Option Text) (slot : ℕ) → IfErr result (IsDrawingStop input) → result ≡ Err (Damaged slot) → ⊥
+drawn_whole result input slot holds damaged = subst (λ (r : Result Ending Stop). IfErr r (IsDrawingStop input)) damaged holds
+
 -- a damaged slot is one of the records'
 pub damaged_records : (result : Result Ending Stop) (fault : RecordsFault) (stop : Stop) (slot : ℕ) → result ≡ Err stop → stop ≡ of_records fault → result ≡ Err (Damaged slot)
     → fault ≡ records.Damaged slot
@@ -145,14 +201,23 @@ explained_by_all input window text first (Covered n) written is on =
     (on.0, on.1, on.2, on.3, (on.4.0, on.4.1, (explained.0, explained.1, says_all text first _ is explained.2, explained.3, explained.4)))
 explained_by_all input window text first Lost written is on = absurd on.4.2
 
+reported_by_all : (input : List ℕ) (window : ℕ) (text first : List ℕ) (verdict : Verdict) (written : List ℕ) → first ≡ take read_limit text
+    → IsReportedOn input window (Some first) verdict written → IsReportedOn input window (Some text) verdict written
+reported_by_all input window text first (Covered n) written is on =
+    let reported = on.4 in
+    (on.0, on.1, on.2, on.3, (reported.0, reported.1, says_all text first _ is reported.2, reported.3, reported.4))
+reported_by_all input window text first Lost written is on = absurd on.4
+
 -- the same as the options ask
 pub verdict_as_by_all : (options : CheckOptions) (input text first : List ℕ) (verdict : Verdict) (written : List ℕ) → first ≡ take read_limit text
     → IsVerdictAs options input (Some first) verdict written → IsVerdictAs options input (Some text) verdict written
-verdict_as_by_all options input text first verdict written is on = go options.explain on
+verdict_as_by_all options input text first verdict written is on = go options.json options.explain on
   where
-    go : (explain : Bool) → IsVerdictIf explain input options.window.seconds (Some first) verdict written → IsVerdictIf explain input options.window.seconds (Some text) verdict written
-    go false here = verdict_by_all input options.window.seconds text first verdict written is here
-    go true here = explained_by_all input options.window.seconds text first verdict written is here
+    go : (json explain : Bool) → IsVerdictIf json explain input options.window.seconds (Some first) verdict written
+        → IsVerdictIf json explain input options.window.seconds (Some text) verdict written
+    go true explain here = reported_by_all input options.window.seconds text first verdict written is here
+    go false true here = explained_by_all input options.window.seconds text first verdict written is here
+    go false false here = verdict_by_all input options.window.seconds text first verdict written is here
 
 pub fault_by_all : (input : List ℕ) (window : ℕ) (text first : List ℕ) (fault : RunFault) → first ≡ take read_limit text → check.IsRunFault input window (Some first) fault
     → check.IsRunFault input window (Some text) fault

@@ -16,6 +16,7 @@ use Rattle.mcv_command.specs.declared.stop.Stop.TheVariants.{BadLine, Mended, No
 abbrev pub says_more : Job → Bool
 says_more (jobs.Legs at) = false
 says_more (jobs.Check cert options) = not options.quiet
+says_more (jobs.Draw dot) = true
 says_more (jobs.Mend patch) = true
 says_more (jobs.Run options) = true
 says_more (jobs.Spool options) = false

@@ -20,6 +20,7 @@ pub fn says_more(job: &Job<'_>) -> bool
     match job {
         Job::Legs { .. } => false,
         Job::Check { options, .. } => !options.quiet,
+        Job::Draw { dot: _ } => true,
         Job::Mend { patch: _ } => true,
         Job::Run(_) => true,
         Job::Spool(_) => false,

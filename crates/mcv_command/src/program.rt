@@ -1,7 +1,7 @@
 //! The program, over any reader and writer in place of standard input and output, any files and any proxy.
 
-ghost use Rattle.std.specs.Prelude.{◌≡◌, ◌≢◌, ℕ, None, Some, Err, IfErr, IfOk, map};
-ghost use Rattle.mcv_command.specs.Program.{AsksAnyRun, AsksAnySpool, Held, IsDone, IsJudgedAs, IsJudgingFault, IsListed, IsListedTo, IsListingStop, IsMended, IsMendedAs, IsMendingStop, IsPatched, IsServed, IsStop, ending_of, shown_of};
+ghost use Rattle.std.specs.Prelude.{◌≡◌, ◌≢◌, ℕ, None, Some, Err, false, true, IfErr, IfOk, map};
+ghost use Rattle.mcv_command.specs.Program.{AsksAnyRun, AsksAnySpool, AsksReport, GivesJson, Held, IsDone, IsDrawingStop, IsDrawn, IsJudgedAs, IsJudgingFault, IsListed, IsListedTo, IsListingStop, IsMended, IsMendedAs, IsMendingStop, IsPatched, IsReportedStop, IsServed, IsStop, ending_of, shown_of};
 ghost use Rattle.mcv_command.specs.declared.stop.Stop.TheVariants.{Run, Damaged};
 ghost use Rattle.mcv_input.specs.declared.fault.RunFault.TheVariants.{Device, Memory};
 ghost use Rattle.mcv_words.specs.Words.{AsksSpool, SpoolOrder, order_of, spool_order_of};
@@ -13,6 +13,7 @@ use mcv_input::{RunFault, write_text};
 use mcv_legs::run_legs;
 use mcv_mend::run_mend;
 use mcv_mend_patch::run_patch;
+use mcv_picture::run_draw;
 use mcv_records::{Shown, write_records};
 use mcv_show::run_check_as;
 use mcv_verdict::{Judgement, Verdict, judge_input};
@@ -43,7 +44,8 @@ fn judge<R: Read, W: Write>(
 ) -> Result<Ending, Stop>
     ensures done { (held : Held) → IfOk result (IsJudgedAs options held None (R.remaining reader.old) (W.contents writer.old) (W.contents writer.new)) }
     ensures stop { (held : Held) → IfErr result (IsJudgingFault held None options.window.seconds (R.remaining reader.old)) }
-    ensures silent { IfErr result (λ stop. stop ≢ Run Device → W.contents writer.new ≡ W.contents writer.old) }
+    ensures silent { options.json ≡ false → IfErr result (λ stop. stop ≢ Run Device → W.contents writer.new ≡ W.contents writer.old) }
+    ensures reported { options.json ≡ true → IfErr result (IsReportedStop (R.remaining reader.old) (W.contents writer.old) (W.contents writer.new)) }
 {
     let verdict = run_check_as(alloc, reader, writer, None, options)?;
     Ok(ending_of(verdict))
@@ -60,11 +62,27 @@ fn judge_by<R: Read, W: Write, F: NamedFiles>(
 ) -> Result<Ending, Stop>
     ensures done { IfOk result (IsJudgedAs options (F.held files.now) (Some name.now) (R.remaining reader.old) (W.contents writer.old) (W.contents writer.new)) }
     ensures stop { IfErr result (IsJudgingFault (F.held files.now) (Some name.now) options.window.seconds (R.remaining reader.old)) }
-    ensures silent { IfErr result (λ stop. stop ≢ Run Device → W.contents writer.new ≡ W.contents writer.old) }
+    ensures silent { options.json ≡ false → IfErr result (λ stop. stop ≢ Run Device → W.contents writer.new ≡ W.contents writer.old) }
+    ensures reported { options.json ≡ true → IfErr result (IsReportedStop (R.remaining reader.old) (W.contents writer.old) (W.contents writer.new)) }
 {
     let text = files.read_named(alloc, name, CERTIFICATE_LIMIT)?;
     let verdict = run_check_as(alloc, reader, writer, Some(text.as_slice()), options)?;
     Ok(ending_of(verdict))
+}
+
+/// Writes the picture of a configuration, as SVG or for Graphviz.
+fn draw<R: Read, W: Write>(
+    alloc: Global,
+    is_dot: bool,
+    reader: &mut R,
+    writer: &mut W,
+) -> Result<Ending, Stop>
+    ensures done { IfOk result (IsDrawn is_dot (R.remaining reader.old) (W.contents writer.old) (W.contents writer.new)) }
+    ensures stop { IfErr result (IsDrawingStop (R.remaining reader.old)) }
+    ensures silent { IfErr result (λ stop. stop ≢ Run Device → W.contents writer.new ≡ W.contents writer.old) }
+{
+    let _verdict = run_draw(alloc, reader, writer, 0, is_dot)?;
+    Ok(Ending::Done)
 }
 
 /// Writes a configuration mended, or the patch that mends it.
@@ -168,7 +186,7 @@ fn list_records<W: Write, F: NamedFiles>(
 }
 
 /// Does what the words of a command line ask for, of which the first is the program's name: help,
-/// legs, verdicts, a mended configuration and records are written to the writer, and so is what the proxy says of itself.
+/// legs, verdicts, a picture, a mended configuration and records are written to the writer, and so is what the proxy says of itself.
 pub fn run_words<'a, R: Read, W: Write, F: NamedFiles, P: Proxy>(
     alloc: Global,
     words: &'a [&'a str],
@@ -181,7 +199,9 @@ pub fn run_words<'a, R: Read, W: Write, F: NamedFiles, P: Proxy>(
         (W.contents writer.old) (W.contents writer.new)) }
     ensures stop { IfErr result (IsStop (map (λ w. w.now) words.entry.now) (F.held files.now) (R.remaining reader.old)) }
     ensures silent { IfErr result (λ stop. stop ≢ Run Device → (stop ≡ Run Memory → ¬ AsksAnyRun (map (λ w. w.now) words.entry.now))
-        → ¬ AsksAnySpool (map (λ w. w.now) words.entry.now) → W.contents writer.new ≡ W.contents writer.old) }
+        → ¬ AsksAnySpool (map (λ w. w.now) words.entry.now) → ¬ AsksReport (map (λ w. w.now) words.entry.now)
+        → W.contents writer.new ≡ W.contents writer.old) }
+    ensures reported { GivesJson (map (λ w. w.now) words.entry.now) → IfErr result (IsReportedStop (R.remaining reader.old) (W.contents writer.old) (W.contents writer.new)) }
     ensures listed { (slot : ℕ) → result ≡ Err (Damaged slot) → (order : SpoolOrder) × AsksSpool (map (λ w. w.now) words.entry.now) order
         × IsListedTo slot (F.held files.now) order (W.contents writer.old) (W.contents writer.new) }
 {
@@ -202,6 +222,7 @@ pub fn run_words<'a, R: Read, W: Write, F: NamedFiles, P: Proxy>(
                 options,
             },
         ) => judge_by(alloc, name, options, files, reader, writer),
+        Ok(Job::Draw { dot }) => draw(alloc, dot, reader, writer),
         Ok(Job::Mend { patch }) => mend(alloc, patch, reader, writer),
         Ok(Job::Run(options)) => serve(alloc, proxy, options, reader, writer),
         Ok(Job::Spool(options)) => list_records(alloc, options, files, writer),

@@ -38,10 +38,17 @@ mcv check a.cert: bad line
 mcv check --explain: check 0, explained
 mcv check --explain -q --window 60: check 60, explained, quietly
 mcv check --quiet --cert a.cert: check 0 by a.cert, quietly
+mcv check --json --window 60: check 60, as JSON
 mcv check --explain --explain: bad line
 mcv check --explain=yes: bad line
 mcv check --at 1: bad line
 mcv legs --cert a: bad line
+mcv draw: draw
+mcv draw --dot: draw a graph
+mcv draw --dot=yes: bad line
+mcv draw --dot --dot: bad line
+mcv draw mcrouter.json: bad line
+mcv draw --window 60: bad line
 mcv mend: mend
 mcv mend --patch: mend by a patch
 mcv mend --patch=yes: bad line
@@ -113,6 +120,8 @@ mcv help legs: help
 mcv check --help: help
 mcv help check: help
 mcv legs --help: help
+mcv draw --help: help
+mcv help draw: help
 mcv mend --help: help
 mcv help mend: help
 mcv run --help: help
@@ -171,6 +180,8 @@ fn job_text(rt: &(impl AllocGlobal + Abort), job: Job<'_>) -> String {
             let window = options.window.seconds;
             format!(in rt.alloc(); "check {window} by {name}{}", options_text(options))
         }
+        Job::Draw { dot: false } => format!(in rt.alloc(); "draw"),
+        Job::Draw { dot: true } => format!(in rt.alloc(); "draw a graph"),
         Job::Mend { patch: false } => format!(in rt.alloc(); "mend"),
         Job::Mend { patch: true } => format!(in rt.alloc(); "mend by a patch"),
         Job::Run(options) => {
@@ -186,11 +197,13 @@ fn job_text(rt: &(impl AllocGlobal + Abort), job: Job<'_>) -> String {
 }
 
 fn options_text(options: CheckOptions) -> &'static str {
-    match (options.explain, options.quiet) {
-        (false, false) => "",
-        (true, false) => ", explained",
-        (false, true) => ", quietly",
-        (true, true) => ", explained, quietly",
+    match (options.explain, options.json, options.quiet) {
+        (false, false, false) => "",
+        (true, false, false) => ", explained",
+        (false, false, true) => ", quietly",
+        (true, false, true) => ", explained, quietly",
+        (false, true, false) => ", as JSON",
+        (_, true, _) => ", otherwise",
     }
 }
 
@@ -337,11 +350,13 @@ const MAIN_PARTS: &[&str] = &[
     "Usage: mcv <COMMAND>",
     "mcrouter",
     "  check  ",
+    "  draw  ",
     "  legs  ",
     "  mend  ",
     "  run  ",
     "  spool  ",
     "\n  mcv check < mcrouter.json\n",
+    "\n  mcv draw < mcrouter.json > tree.svg\n",
     "\n  mcv mend < mcrouter.json > mended.json\n",
     "\n  (echo 'delete a'; cat mcrouter.json) | mcv legs\n",
     "\n  mcv run --listen 127.0.0.1:5000 --spool mcv.spool --server-timeout 1000 \\\n    < mcrouter.json\n",
@@ -349,8 +364,9 @@ const MAIN_PARTS: &[&str] = &[
 ];
 
 const CHECK_PARTS: &[&str] = &[
-    "Usage: mcv check [--cert FILE] [--window SECONDS] [--explain] [-q] < FILE",
+    "Usage: mcv check [--cert FILE] [--window SECONDS] [--explain] [--json]\n                 [-q] < FILE",
     "--explain",
+    "--json",
     "-q, --quiet",
     "--cert <FILE>",
     "--window <SECONDS>",
@@ -376,6 +392,15 @@ const LEGS_PARTS: &[&str] = &[
     "mcv: configuration NUMBER at PATH",
 ];
 
+const DRAW_PARTS: &[&str] = &[
+    "Usage: mcv draw [--dot] < FILE",
+    "--dot ",
+    "\n  mcv draw < mcrouter.json > tree.svg\n",
+    "\n  mcv draw --dot < mcrouter.json | dot -Tpdf > tree.pdf\n",
+    "\n  [LOST]  ",
+    "mcv: configuration NUMBER at PATH",
+];
+
 const MEND_PARTS: &[&str] = &[
     "Usage: mcv mend [--patch] < FILE",
     "--patch ",
@@ -391,6 +416,7 @@ fn help_names_input_and_exit_statuses(rt: HostRuntime) {
     check_parts(&rt, &["mcv", "--help"], MAIN_PARTS);
     check_parts(&rt, &["mcv", "check", "--help"], CHECK_PARTS);
     check_parts(&rt, &["mcv", "legs", "--help"], LEGS_PARTS);
+    check_parts(&rt, &["mcv", "draw", "--help"], DRAW_PARTS);
     check_parts(&rt, &["mcv", "mend", "--help"], MEND_PARTS);
     check_parts(&rt, &["mcv", "spool", "--help"], SPOOL_PARTS);
 }
@@ -440,6 +466,7 @@ fn help_names_each_handle_within_eighty_columns(rt: HostRuntime) {
     }
     check_columns(&rt, &["mcv", "legs", "--help"]);
     check_columns(&rt, &["mcv", "check", "--help"]);
+    check_columns(&rt, &["mcv", "draw", "--help"]);
     check_columns(&rt, &["mcv", "mend", "--help"]);
     check_columns(&rt, &["mcv", "spool", "--help"]);
 }
@@ -586,6 +613,39 @@ fn configurations_are_judged(rt: HostRuntime) {
     check_said(&rt, &["mcv", "check"], POOL, COVERED, 0);
     check_said(&rt, &["mcv", "check"], WARM_UP, LOST, 3);
     check_said(&rt, &["mcv", "check"], "{", "mcv: configuration 1 at .", 2);
+}
+
+/// The finding's legs are thick; a delete goes to the cold side, both can be read, and the warm one is lost.
+const WARM_UP_GRAPH: &str = "digraph mcv {
+rankdir=LR;
+node [shape=box fontname=monospace];
+\"r0p-\" [label=\"WarmUpRoute exptime 0 [delete]\" color=\"#b3261e\" style=dashed penwidth=4];
+\"r0p0\" [label=\"PoolRoute a:11211 [delete] [read]\" color=\"#b3261e\" style=dashed penwidth=4];
+\"r0p-\" -> \"r0p0\" [label=\"cold\" color=\"#b3261e\" style=dashed penwidth=4];
+\"r0p1\" [label=\"PoolRoute b:11211 [read] [LOST]\" color=\"#1a56c4\" penwidth=4 fontcolor=\"#b3261e\"];
+\"r0p-\" -> \"r0p1\" [label=\"warm\" color=\"#1a56c4\" penwidth=4 fontcolor=\"#b3261e\"];
+}
+";
+
+/// A handle alone, and the verdict below it.
+const NOTHING_DRAWN: &str = "\
+<svg xmlns=\"http://www.w3.org/2000/svg\" width=\"120\" height=\"88\" font-family=\"monospace\" font-size=\"13\">
+<rect width=\"100%\" height=\"100%\" fill=\"#ffffff\"/>
+<g id=\"r0p-\">
+<rect x=\"16\" y=\"16\" width=\"88\" height=\"26\" rx=\"4\" fill=\"#ffffff\" stroke=\"#555555\" stroke-width=\"1\"/>
+<text x=\"24\" y=\"34\">NullRoute</text>
+</g>
+<text x=\"16\" y=\"70\">covered 0</text>
+</svg>
+";
+
+#[test]
+fn configurations_are_drawn(rt: HostRuntime) {
+    check_said(&rt, &["mcv", "draw", "--dot"], WARM_UP, WARM_UP_GRAPH, 0);
+    let config = "{\"route\": \"NullRoute\"}";
+    check_said(&rt, &["mcv", "draw"], config, NOTHING_DRAWN, 0);
+    check_said(&rt, &["mcv", "draw"], "{", "mcv: configuration 1 at .", 2);
+    check_stop(&rt, "draw", "mcv: configuration 1 at .", 2);
 }
 
 const WARM_UP_MENDED: &str =

@@ -45,6 +45,7 @@ fn says(alloc: Global, words: &[&str]) -> bool {
 #[test]
 fn more_is_said_of_configurations_alone(rt: HostRuntime) {
     assert!(rt; says(rt.alloc(), &["mcv", "check"]));
+    assert!(rt; says(rt.alloc(), &["mcv", "draw"]));
     assert!(rt; says(rt.alloc(), &["mcv", "mend"]));
     assert!(rt; !says(rt.alloc(), &["mcv", "check", "-q"]));
     assert!(rt; !says(rt.alloc(), &["mcv", "legs"]));

@@ -1,3 +1,4 @@
 pub mod Mend
 pub mod Members
 pub mod Classes
+pub mod Starts

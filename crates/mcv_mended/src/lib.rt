@@ -5,5 +5,6 @@
 #![tactic(auto)]
 
 mod mended;
+mod start;
 
 pub use mended::is_mended;

@@ -11,9 +11,11 @@ ghost use Rattle.mcv_alike.specs.Numbers.{IsNumbering, legs_value};
 ghost use Rattle.mcv_needs.specs.InMemory.{class_of_need, need_value, needs_value};
 ghost use Rattle.mcv_mended.specs.Members.{IsAskedWell, IsMemberMended};
 ghost use Rattle.mcv_mended.specs.Mend.{IsMendOf, IsMendedBy};
+ghost use Rattle.mcv_mended.specs.Starts.{AreStarts};
 
+use crate::start::{Start, start_of};
 use mcv_alike::{NeededLeg, Numbering, is_same_plan, is_widened, numbered};
-use mcv_base::{Mark, Moment, Op, Position, Rest};
+use mcv_base::{Mark, Moment, Op, Rest};
 use mcv_blocks::{RouteClass, route_classes};
 use mcv_needs::Need;
 use mcv_route::{Route, Routes, era_count, opened};
@@ -42,6 +44,14 @@ struct Sides<'a> {
     numbering: &'a Numbering,
     before: &'a Route,
     after: &'a Route,
+}
+
+/// The same for one rest, with where its requests begin on both sides.
+#[derive(Clone, Copy)]
+struct Begun<'a> {
+    sides: &'a Sides<'a>,
+    before: &'a Start<'a>,
+    after: &'a Start<'a>,
 }
 
 /// Whether the new routes are the old ones, mended: for each class of keys, in each era, deletes send the legs that the
@@ -166,8 +176,15 @@ fn is_member_mended(
     ensures { IfOk result (λ fine. (n : RoutesValue) → IsNumbering routes.now n sides.now.numbering.now → IsTrue fine
         → IsMemberMended routes.now n (view sides.now.before.now) (view sides.now.after.now) rest.now (legs_value legs.now)) }
 {
+    let before = start_of(alloc, sides.before, rest)?;
+    let after = start_of(alloc, sides.after, rest)?;
+    let begun = Begun {
+        sides,
+        before: &before,
+        after: &after,
+    };
     for era in 0..era_count(routes) {
-        let fine = is_era_mended(alloc, sides, rest, opened(routes, era), legs)?;
+        let fine = is_era_mended(alloc, &begun, rest, opened(routes, era), legs)?;
         if !fine {
             return Ok(false);
         }
@@ -178,32 +195,34 @@ fn is_member_mended(
 /// The same in one era.
 fn is_era_mended(
     alloc: Global,
-    sides: &Sides,
+    begun: &Begun,
     rest: &Rest,
     since: Option<Moment>,
     legs: &[NeededLeg],
 ) -> Result<bool, AllocError>
-    ensures { IfOk result (λ fine. (r n : RoutesValue) → IsNumbering r n sides.now.numbering.now → IsTrue fine
-        → (op : Operation) → IsAskedWell r n (view sides.now.before.now) (view sides.now.after.now) rest.now (option_map (λ m. m.0) since) (legs_value legs.now) op) }
+    requires { AreStarts begun.now rest.now }
+    ensures { IfOk result (λ fine. (r n : RoutesValue) → IsNumbering r n begun.now.sides.now.numbering.now → IsTrue fine
+        → (op : Operation) → IsAskedWell r n (view begun.now.sides.now.before.now) (view begun.now.sides.now.after.now) rest.now (option_map (λ m. m.0) since) (legs_value legs.now) op) }
 {
-    let fine = are_asked_well(alloc, sides, &OPERATIONS, rest, since, legs)?;
+    let fine = are_asked_well(alloc, begun, &OPERATIONS, rest, since, legs)?;
     Ok(fine)
 }
 
 /// The same when it is asked for one of these operations.
 fn are_asked_well(
     alloc: Global,
-    sides: &Sides,
+    begun: &Begun,
     operations: &[Op],
     rest: &Rest,
     since: Option<Moment>,
     legs: &[NeededLeg],
 ) -> Result<bool, AllocError>
-    ensures { IfOk result (λ fine. (r n : RoutesValue) → IsNumbering r n sides.now.numbering.now → IsTrue fine
-        → All (IsAskedWell r n (view sides.now.before.now) (view sides.now.after.now) rest.now (option_map (λ m. m.0) since) (legs_value legs.now)) operations.now) }
+    requires { AreStarts begun.now rest.now }
+    ensures { IfOk result (λ fine. (r n : RoutesValue) → IsNumbering r n begun.now.sides.now.numbering.now → IsTrue fine
+        → All (IsAskedWell r n (view begun.now.sides.now.before.now) (view begun.now.sides.now.after.now) rest.now (option_map (λ m. m.0) since) (legs_value legs.now)) operations.now) }
 {
     for op in operations {
-        let fine = is_asked_well(alloc, sides, *op, rest, since, legs)?;
+        let fine = is_asked_well(alloc, begun, *op, rest, since, legs)?;
         if !fine {
             return Ok(false);
         }
@@ -214,14 +233,15 @@ fn are_asked_well(
 /// Whether the new route does what it should when it is asked for an operation.
 fn is_asked_well(
     alloc: Global,
-    sides: &Sides,
+    begun: &Begun,
     op: Op,
     rest: &Rest,
     since: Option<Moment>,
     legs: &[NeededLeg],
 ) -> Result<bool, AllocError>
-    ensures { IfOk result (λ fine. (r n : RoutesValue) → IsNumbering r n sides.now.numbering.now → IsTrue fine
-        → IsAskedWell r n (view sides.now.before.now) (view sides.now.after.now) rest.now (option_map (λ m. m.0) since) (legs_value legs.now) op) }
+    requires { AreStarts begun.now rest.now }
+    ensures { IfOk result (λ fine. (r n : RoutesValue) → IsNumbering r n begun.now.sides.now.numbering.now → IsTrue fine
+        → IsAskedWell r n (view begun.now.sides.now.before.now) (view begun.now.sides.now.after.now) rest.now (option_map (λ m. m.0) since) (legs_value legs.now) op) }
 {
     let asked = Asked {
         op,
@@ -229,11 +249,10 @@ fn is_asked_well(
         since,
         mark: Mark::Plain,
     };
-    let root = Position::root(alloc);
-    let old = laid_out(alloc, sides.before, &asked, &root)?;
-    let new = laid_out(alloc, sides.after, &asked, &root)?;
+    let old = laid_out(alloc, begun.before.route, &asked, &begun.before.position)?;
+    let new = laid_out(alloc, begun.after.route, &asked, &begun.after.position)?;
     match op {
-        Op::Delete => Ok(is_widened(sides.numbering, &old, &new, legs)),
-        _ => Ok(is_same_plan(sides.numbering, &old, &new)),
+        Op::Delete => Ok(is_widened(begun.sides.numbering, &old, &new, legs)),
+        _ => Ok(is_same_plan(begun.sides.numbering, &old, &new)),
     }
 }

@@ -14,12 +14,11 @@ use Rattle.mcv_places.specs.Document.{IsDocument}
 use Rattle.mcv_route.specs.Eras.{IsBreakTable, breaks_of}
 use Rattle.mcv_route.specs.Routes.{RoutesValue, within}
 use Rattle.mcv_verdict.specs.Text.{covered_line}
-use Rattle.mcv_verdict.specs.Verdict.{AreCoveredBy, IsLossBy, IsVerdictOn}
+use Rattle.mcv_verdict.specs.Verdict.{AreCoveredBy, IsLossBy}
 use Rattle.mcv_verdict.specs.declared.verdict.Verdict.{Verdict}
 use Rattle.mcv_verdict.specs.declared.verdict.Verdict.TheVariants.{Covered, Lost}
 use Rattle.mcv_witness.specs.Finding.{FindingValue}
 use Rattle.mcv_witness.specs.Text.{finding_text}
-use Rattle.mcv_words.specs.declared.options.CheckOptions.{CheckOptions}
 
 abbrev pub scene : Data → RoutesValue → FindingValue → SceneValue
 scene d r f = record { document = d; routes = r; finding = f }
@@ -55,13 +54,3 @@ IsExplainedOf d r certificate verdict text = (table : List ℕ) × IsBreakTable 
 abbrev pub IsExplainedOn : (input : List ℕ) → (window : ℕ) → (certificate : Option (List ℕ)) → Verdict → (text : List ℕ) → Type 0
 IsExplainedOn input window certificate verdict text =
     (r : RoutesValue) × AreNamedBy input r × (d : Data) × IsDocument input d × IsExplainedOf d (within window r) certificate verdict text
-
--- ---- by the options
-
-abbrev pub IsVerdictIf : (explain : Bool) → (input : List ℕ) → (window : ℕ) → (certificate : Option (List ℕ)) → Verdict → (text : List ℕ) → Type 0
-IsVerdictIf false input window certificate verdict text = IsVerdictOn input window certificate verdict text
-IsVerdictIf true input window certificate verdict text = IsExplainedOn input window certificate verdict text
-
--- the text says the verdict on the input as the options ask
-abbrev pub IsVerdictAs : CheckOptions → (input : List ℕ) → (certificate : Option (List ℕ)) → Verdict → (text : List ℕ) → Type 0
-IsVerdictAs o input certificate verdict text = IsVerdictIf o.explain input o.window.seconds certificate verdict text

@@ -13,6 +13,7 @@ ghost use Rattle.mcv_witness.specs.Finding.{finding_of};
 ghost use Rattle.mcv_witness.specs.Text.{finding_text};
 
 use crate::input::{Configuration, configuration_of, read_text};
+use crate::output::Output;
 use mcv_cert::Certificate;
 use mcv_check::Accepted;
 use mcv_explain::{Scene, push_compared, push_explanation};
@@ -23,13 +24,6 @@ use mcv_witness::finding_text;
 use serde_json::Value;
 use std::alloc::{AllocError, Global};
 use std::io::{Read, Write};
-
-/// A verdict, and the text that says it.
-#[derive(Drop)]
-struct Output {
-    verdict: Verdict,
-    text: Vec<u8>,
-}
 
 /// Reads a configuration and writes the verdict on it within a window, with an explanation behind it; by the certificate
 /// whose text is given, or else by one made here.

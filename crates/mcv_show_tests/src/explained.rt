@@ -6,7 +6,7 @@ use mcv_words::{CheckOptions, InRange, Window};
 use std::process::Abort;
 
 /// Deletes have the failover of gets.
-const LOST: &str =
+pub(crate) const LOST: &str =
     r#"{"pools": {"east": {"servers": ["10.0.1.1:11211"]}, "west": {"servers": ["10.0.2.1:11211"]}},
  "route": {"type": "FailoverRoute", "children": ["PoolRoute|east", "PoolRoute|west"]}}"#;
 
@@ -30,7 +30,7 @@ The answer at 1 can be that reply: what 10.0.2.1:11211 still has from before the
 ";
 
 /// Gets of one pool, by a policy with a strange prefix.
-const COVERED: &str = r#"{"pools": {"A": {"servers": ["a:1", "<b>:1"]}},
+pub(crate) const COVERED: &str = r#"{"pools": {"A": {"servers": ["a:1", "<b>:1"]}},
  "route": {"type": "PrefixSelectorRoute", "policies": {"\"><script>": "PoolRoute|A"}, "wildcard": "PoolRoute|A"}}"#;
 
 const COVERED_TEXT: &str = "covered 2
@@ -88,6 +88,7 @@ fn options_of(rt: &impl Abort, seconds: u64, explain: bool) -> CheckOptions {
     CheckOptions {
         window: Window::new(seconds).expect(rt, "a window"),
         explain,
+        json: false,
         quiet: false,
     }
 }

@@ -4,3 +4,5 @@
 
 #[cfg(test)]
 mod explained;
+#[cfg(test)]
+mod reported;

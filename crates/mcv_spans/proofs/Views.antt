@@ -1,9 +1,9 @@
 -- A located value as a place, one level at a time, and where it stands.
-use Rattle.std.proofs.Common.{◌≡◌, ◌∙◌, ◌<◌, ◌+◌, ℕ, List, [], ◌∷◌, drop, get_or, length, map, String, Vec, Global, Some, ap, rules, string_bytes, subst, sym}
+use Rattle.std.proofs.Common.{◌≡◌, ◌∙◌, ◌<◌, ◌+◌, ℕ, List, ◌∷◌, drop, get_or, length, String, Vec, Global, Some, ap, rules, string_bytes, subst, sym}
 use Rattle.std.proofs.lemmas.List.{drop_more}
 use Rattle.serde_json.specs.Data.{string}
 use Rattle.serde_json.specs.Read.{read}
-use Rattle.mcv_spans.specs.Place.{Items, Members, Place, array, items_of, items_view, member_view, members_of, members_view, object, other, span_of, text, view}
+use Rattle.mcv_spans.specs.Place.{Place, array, items_view, member_view, members_view, object, other, span_of, text, view}
 use Rattle.mcv_spans.specs.Stands.{IsBetween, IsWithin, IsWord, ItemsStand, MembersStand, StandsIn, bytes_at}
 use Rattle.mcv_spans.specs.declared.value.Span.{Span}
 use Rattle.mcv_spans.specs.declared.value.Member.{Member, out-Member}

@@ -1,5 +1,5 @@
 -- A value stands in a text where its spans say (own).
-use Rattle.std.specs.Prelude.{◌≡◌, ◌≤◌, ◌<◌, ⊤, ℕ, ◌+◌, ◌-◌, List, Option, Some, None, drop, length, slice_index, take}
+use Rattle.std.specs.Prelude.{◌≡◌, ◌≤◌, ◌<◌, ⊤, ℕ, ◌-◌, List, Option, Some, None, drop, length, slice_index, take}
 use Rattle.serde_json.specs.Data.{Data, array as json_array, boolean, null, number, object as json_object, string}
 use Rattle.serde_json.specs.Read.{read}
 use Rattle.mcv_spans.specs.Place.{Items, Members, Place, array, item, member, no_items, no_members, object, other, span_of, text}

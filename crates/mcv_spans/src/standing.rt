@@ -137,6 +137,9 @@ fn is_between(bytes: &[u8], first: u8, last: u8) -> bool
 fn reads_as(alloc: Global, bytes: &[u8], body: &str) -> Result<bool, AllocError>
     ensures { IfOk result (λ reads. IsTrue reads → read bytes.now ≡ Some (string body.now)) }
 {
+    if is_written_of(alloc, bytes, body)? {
+        return Ok(true);
+    }
     match Value::from_slice(alloc, bytes) {
         Ok(Value::String(text)) => Ok(text.as_str() == body),
         Ok(_) => Ok(false),
@@ -147,6 +150,15 @@ fn reads_as(alloc: Global, bytes: &[u8], body: &str) -> Result<bool, AllocError>
             Ok(false)
         }
     }
+}
+
+/// Whether the bytes are what is written of a text, which reads as it. (Most texts are, and it costs less than to read them.)
+fn is_written_of(alloc: Global, bytes: &[u8], body: &str) -> Result<bool, AllocError>
+    ensures { IfOk result (λ is. IsTrue is → read bytes.now ≡ Some (string body.now)) }
+{
+    let text = Value::String(String::from_str(alloc, body)?);
+    let written = text.to_vec(alloc)?;
+    Ok(written.as_slice() == bytes)
 }
 
 /// Whether the bytes are JSON that reads as a number, a boolean or null.

@@ -1,4 +1,4 @@
-//! The program `mcv` without its proxy, for who only judges and mends configurations: `legs`, `check`, `mend` and `spool` as
+//! The program `mcv` without its proxy, for who only judges, draws and mends configurations: `legs`, `check`, `draw`, `mend` and `spool` as
 //! in the whole program. `run` is a bad command line here.
 #![tactic(auto)]
 

@@ -1,4 +1,4 @@
--- Words with which clap finds no fault name the command `check`, `legs`, `mend`, `run` or `spool`: `mcv` wants a command, and the
+-- Words with which clap finds no fault name the command `check`, `draw`, `legs`, `mend`, `run` or `spool`: `mcv` wants a command, and the
 -- only other one, `help`, is always a fault.
 use Rattle.std.proofs.Common.{◌≡◌, ◌∙◌, ◌⊎◌, inl, inr, ℕ, Bool, cond, true, false, List, [], ◌∷◌, drop, Option, Some, None, ap, codes, fold, is_some, option_map, refl, subst, sym, true≢false}
 use Rattle.std.specs.Prelude.{IfSome, ⊤}
@@ -24,7 +24,8 @@ abbrev names : Names
 names = names_of (built mcv_app)
 
 abbrev pub IsCommand : Text → Type 0
-IsCommand name = (name ≡ codes "check") ⊎ ((name ≡ codes "legs") ⊎ ((name ≡ codes "mend") ⊎ ((name ≡ codes "run") ⊎ (name ≡ codes "spool"))))
+IsCommand name =
+    (name ≡ codes "check") ⊎ ((name ≡ codes "draw") ⊎ ((name ≡ codes "legs") ⊎ ((name ≡ codes "mend") ⊎ ((name ≡ codes "run") ⊎ (name ≡ codes "spool")))))
 
 abbrev pub StopsAtCommand : Option (Text × List Text) → Type 0
 StopsAtCommand stop = IfSome stop (λ p. IsCommand p.0)
@@ -42,29 +43,31 @@ none_of (k ∷ ks) b e = absurd (some_kind k ks e)
 
 -- ---- one word
 
--- the command of the six that answers
-abbrev answering : Bool → Bool → Bool → Bool → Bool → Bool → Option Text
-answering check legs mend run spool help =
+-- the command of the seven that answers
+abbrev answering : Bool → Bool → Bool → Bool → Bool → Bool → Bool → Option Text
+answering check draw legs mend run spool help =
     option_map (λ (s : Text × List Text). s.0)
     (cond check (Some (codes "check", []))
+    (cond draw (Some (codes "draw", []))
     (cond legs (Some (codes "legs", []))
-    (cond mend (Some (codes "mend", [])) (cond run (Some (codes "run", [])) (cond spool (Some (codes "spool", [])) (cond help (Some (codes "help", [])) None))))))
+    (cond mend (Some (codes "mend", [])) (cond run (Some (codes "run", [])) (cond spool (Some (codes "spool", [])) (cond help (Some (codes "help", [])) None)))))))
 
 named : (waiting : Waiting) (word : Text) (h : Held) → other_fault top (subcommand_met names waiting word) word h ≡ [] → IfSome (subcommand_met names waiting word) IsCommand
 named (option id) word h none = tt
 named positional word h none = tt
 named idle word h none =
-    go (answers_to word (codes "check", [])) (answers_to word (codes "legs", [])) (answers_to word (codes "mend", [])) (answers_to word (codes "run", [])) (answers_to word (codes "spool", []))
+    go (answers_to word (codes "check", [])) (answers_to word (codes "draw", [])) (answers_to word (codes "legs", [])) (answers_to word (codes "mend", [])) (answers_to word (codes "run", [])) (answers_to word (codes "spool", []))
     (answers_to word (codes "help", [])) none
   where
-    go : (a b c d e f : Bool) → other_fault top (answering a b c d e f) word h ≡ [] → IfSome (answering a b c d e f) IsCommand
-    go true b c d e f none = inl refl
-    go false true c d e f none = inr (inl refl)
-    go false false true d e f none = inr (inr (inl refl))
-    go false false false true e f none = inr (inr (inr (inl refl)))
-    go false false false false true f none = inr (inr (inr (inr refl)))
-    go false false false false false true none = absurd (some_kind DisplayHelp (InvalidSubcommand ∷ []) none)
-    go false false false false false false none = tt
+    go : (a b c d e f g : Bool) → other_fault top (answering a b c d e f g) word h ≡ [] → IfSome (answering a b c d e f g) IsCommand
+    go true b c d e f g none = inl refl
+    go false true c d e f g none = inr (inl refl)
+    go false false true d e f g none = inr (inr (inl refl))
+    go false false false true e f g none = inr (inr (inr (inl refl)))
+    go false false false false true f g none = inr (inr (inr (inr (inl refl))))
+    go false false false false false true g none = inr (inr (inr (inr (inr refl))))
+    go false false false false false false true none = absurd (some_kind DisplayHelp (InvalidSubcommand ∷ []) none)
+    go false false false false false false false none = tt
 
 after_plain : (c : List Rule) (waiting : Waiting) (word : Text) (h : Held) → EntersCommand (plain_word c waiting word h).1
 after_plain c (option id) word h = tt
@@ -150,7 +153,9 @@ abbrev Enters : Option (Text × List Text) → Text → Type 0
 Enters stop name = (rows : List Row) × (entered (built mcv_app) stop ≡ Some (name, rows))
 
 abbrev EntersOne : Option (Text × List Text) → Type 0
-EntersOne stop = Enters stop (codes "check") ⊎ (Enters stop (codes "legs") ⊎ (Enters stop (codes "mend") ⊎ (Enters stop (codes "run") ⊎ Enters stop (codes "spool"))))
+EntersOne stop =
+    Enters stop (codes "check")
+    ⊎ (Enters stop (codes "draw") ⊎ (Enters stop (codes "legs") ⊎ (Enters stop (codes "mend") ⊎ (Enters stop (codes "run") ⊎ Enters stop (codes "spool")))))
 
 entered_as : (name : Text) (p : Text × List Text) (rows : List Row) → entered (built mcv_app) (Some (name, p.1)) ≡ Some (name, rows) → p.0 ≡ name → Enters (Some p) name
 entered_as name p rows at is = (rows, subst (λ (called : Text). entered (built mcv_app) (Some (called, p.1)) ≡ Some (name, rows)) (sym is) at)
@@ -158,10 +163,11 @@ entered_as name p rows at is = (rows, subst (λ (called : Text). entered (built 
 entered_command : (stop : Option (Text × List Text)) → StopsAtCommand stop → is_some (entered (built mcv_app) stop) ≡ true → EntersOne stop
 entered_command None at has = absurd (true≢false (sym has))
 entered_command (Some p) (inl check) has = inl (entered_as (codes "check") p _ refl check)
-entered_command (Some p) (inr (inl legs)) has = inr (inl (entered_as (codes "legs") p _ refl legs))
-entered_command (Some p) (inr (inr (inl mend))) has = inr (inr (inl (entered_as (codes "mend") p _ refl mend)))
-entered_command (Some p) (inr (inr (inr (inl run)))) has = inr (inr (inr (inl (entered_as (codes "run") p _ refl run))))
-entered_command (Some p) (inr (inr (inr (inr spool)))) has = inr (inr (inr (inr (entered_as (codes "spool") p _ refl spool))))
+entered_command (Some p) (inr (inl draw)) has = inr (inl (entered_as (codes "draw") p _ refl draw))
+entered_command (Some p) (inr (inr (inl legs))) has = inr (inr (inl (entered_as (codes "legs") p _ refl legs)))
+entered_command (Some p) (inr (inr (inr (inl mend)))) has = inr (inr (inr (inl (entered_as (codes "mend") p _ refl mend))))
+entered_command (Some p) (inr (inr (inr (inr (inl run))))) has = inr (inr (inr (inr (inl (entered_as (codes "run") p _ refl run)))))
+entered_command (Some p) (inr (inr (inr (inr (inr spool))))) has = inr (inr (inr (inr (inr (entered_as (codes "spool") p _ refl spool)))))
 
 -- where the walk over the words stops
 abbrev pub stop_of : List Text → Option (Text × List Text)
@@ -183,6 +189,7 @@ none_below words none = (free words none).1
 
 pub taken : (words : List Text) → faults words ≡ []
     → NamesCommand words (codes "check")
-    ⊎ (NamesCommand words (codes "legs") ⊎ (NamesCommand words (codes "mend") ⊎ (NamesCommand words (codes "run") ⊎ NamesCommand words (codes "spool"))))
+    ⊎ (NamesCommand words (codes "draw")
+    ⊎ (NamesCommand words (codes "legs") ⊎ (NamesCommand words (codes "mend") ⊎ (NamesCommand words (codes "run") ⊎ NamesCommand words (codes "spool")))))
 taken words none =
     entered_command (stop_of words) (stops_at_command words none) (wanted (meets words) (finished top.rules (walk top.rules names nothing_held (drop 1 words)).held) (free words none).2)

@@ -116,6 +116,21 @@ too_wide_a_window : faults (codes "mcv" ∷ codes "check" ∷ codes "--window" �
 unfolding clap_on_literals
 too_wide_a_window = refl
 
+draw : faults (codes "mcv" ∷ codes "draw" ∷ []) ≡ []
+unfolding clap_on_literals
+draw = refl
+
+abbrev dot_of : Option (Text × List Row) → Option (Text × Option Text)
+dot_of = option_map (λ p. (p.0, one_of (codes "dot") p.1))
+
+draw_named : dot_of (named (codes "mcv" ∷ codes "draw" ∷ [])) ≡ Some (codes "draw", Some (codes "false"))
+unfolding clap_on_literals
+draw_named = refl
+
+dot_named : dot_of (named (codes "mcv" ∷ codes "draw" ∷ codes "--dot" ∷ [])) ≡ Some (codes "draw", Some (codes "true"))
+unfolding clap_on_literals
+dot_named = refl
+
 mend : faults (codes "mcv" ∷ codes "mend" ∷ []) ≡ []
 unfolding clap_on_literals
 mend = refl
@@ -259,6 +274,10 @@ explain_named = refl
 explain_absent : flag_of (codes "explain") (named (codes "mcv" ∷ codes "check" ∷ codes "--quiet" ∷ [])) ≡ Some (Some (codes "false"))
 unfolding clap_on_literals
 explain_absent = refl
+
+json_named : flag_of (codes "json") (named (codes "mcv" ∷ codes "check" ∷ codes "--json" ∷ [])) ≡ Some (Some (codes "true"))
+unfolding clap_on_literals
+json_named = refl
 
 quiet_named : flag_of (codes "quiet") (named (codes "mcv" ∷ codes "check" ∷ codes "-q" ∷ [])) ≡ Some (Some (codes "true"))
 unfolding clap_on_literals

@@ -13,9 +13,9 @@ use Rattle.clap.specs.declared.parser.matches.ArgMatches.TheViews.{out-ArgMatche
 use Rattle.clap.specs.declared.parser.matches.SubCommand.{SubCommand}
 use Rattle.clap.specs.Simple.{subcommand_rows}
 use Rattle.mcv_words.specs.Ranges.{proxy_limit, session_limit, timeout_limit, window_limit, client_limit}
-use Rattle.mcv_words.specs.Words.{faults, named, CanRun, IsCheckOf, IsFaultOfKind, IsGivenIn, IsJobOf, IsLineFault, IsNumberOf, IsRunOf, IsSpoolOf, MayBeGivenIn, IsMendOf}
+use Rattle.mcv_words.specs.Words.{faults, named, CanRun, IsCheckOf, IsDrawOf, IsFaultOfKind, IsGivenIn, IsJobOf, IsLineFault, IsNumberOf, IsRunOf, IsSpoolOf, MayBeGivenIn, IsMendOf}
 use Rattle.mcv_words.specs.declared.words.Job.{Job}
-use Rattle.mcv_words.specs.declared.words.Job.TheVariants.{Legs, Check, Mend, Run, Spool}
+use Rattle.mcv_words.specs.declared.words.Job.TheVariants.{Legs, Check, Draw, Mend, Run, Spool}
 use Rattle.mcv_words.proofs.OptionValues.{HasAll, HasNumber, MayHaveNumber}
 use Rattle.mcv_words.specs.declared.words.LineFault.{LineFault}
 use Rattle.mcv_words.specs.declared.words.LineFault.TheVariants.{BadLine, Memory, Help, Version}
@@ -129,14 +129,25 @@ can_run rows has = record {
 pub check_asked : (words : List Text) (rows : List Row) (job : Job) → faults words ≡ [] → named words ≡ Some (codes "check", rows) → IsCheckOf rows job → IsJobOf words job
 check_asked words rows (Legs at) none check of = absurd of
 check_asked words rows (Check cert options) none check of = (none, rows, check, of)
+check_asked words rows (Draw dot) none check of = absurd of
 check_asked words rows (Mend patch) none check of = absurd of
 check_asked words rows (Run options) none check of = absurd of
 check_asked words rows (Spool options) none check of = absurd of
+
+-- the job of `draw` that has the values of the words is what they ask for
+pub draw_asked : (words : List Text) (rows : List Row) (job : Job) → faults words ≡ [] → named words ≡ Some (codes "draw", rows) → IsDrawOf rows job → IsJobOf words job
+draw_asked words rows (Legs at) none draw of = absurd of
+draw_asked words rows (Check cert options) none draw of = absurd of
+draw_asked words rows (Draw dot) none draw of = (none, rows, draw, of)
+draw_asked words rows (Mend patch) none draw of = absurd of
+draw_asked words rows (Run options) none draw of = absurd of
+draw_asked words rows (Spool options) none draw of = absurd of
 
 -- the job of `mend` that has the values of the words is what they ask for
 pub mend_asked : (words : List Text) (rows : List Row) (job : Job) → faults words ≡ [] → named words ≡ Some (codes "mend", rows) → IsMendOf rows job → IsJobOf words job
 mend_asked words rows (Legs at) none mend of = absurd of
 mend_asked words rows (Check cert options) none mend of = absurd of
+mend_asked words rows (Draw dot) none mend of = absurd of
 mend_asked words rows (Mend patch) none mend of = (none, rows, mend, of)
 mend_asked words rows (Run options) none mend of = absurd of
 mend_asked words rows (Spool options) none mend of = absurd of
@@ -145,6 +156,7 @@ mend_asked words rows (Spool options) none mend of = absurd of
 pub run_asked : (words : List Text) (rows : List Row) (job : Job) → faults words ≡ [] → named words ≡ Some (codes "run", rows) → IsRunOf rows job → IsJobOf words job
 run_asked words rows (Legs at) none run of = absurd of
 run_asked words rows (Check cert options) none run of = absurd of
+run_asked words rows (Draw dot) none run of = absurd of
 run_asked words rows (Mend patch) none run of = absurd of
 run_asked words rows (Run options) none run of = (none, rows, run, of)
 run_asked words rows (Spool options) none run of = absurd of
@@ -153,6 +165,7 @@ run_asked words rows (Spool options) none run of = absurd of
 pub spool_asked : (words : List Text) (rows : List Row) (job : Job) → faults words ≡ [] → named words ≡ Some (codes "spool", rows) → IsSpoolOf rows job → IsJobOf words job
 spool_asked words rows (Legs at) none spool of = absurd of
 spool_asked words rows (Check cert options) none spool of = absurd of
+spool_asked words rows (Draw dot) none spool of = absurd of
 spool_asked words rows (Mend patch) none spool of = absurd of
 spool_asked words rows (Run options) none spool of = absurd of
 spool_asked words rows (Spool options) none spool of = (none, rows, spool, of)

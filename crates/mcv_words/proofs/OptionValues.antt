@@ -437,6 +437,10 @@ explain_tame : IsTame check (with_index 1 (filled (flag_rule (codes "explain")))
 explain_tame [] rows none good = written check.rules (codes "explain") (codes "true") [] rows refl good
 explain_tame (v ∷ vs) rows none good = absurd (no_value_for_flag (length vs) (none_of (range_kinds 0 0 (suc (length vs))) (set_fault false (with_index 1 (filled (flag_rule (codes "explain")))) (v ∷ vs) rows) none).0)
 
+json_tame : IsTame check (with_index 1 (filled (flag_rule (codes "json"))))
+json_tame [] rows none good = written check.rules (codes "json") (codes "true") [] rows refl good
+json_tame (v ∷ vs) rows none good = absurd (no_value_for_flag (length vs) (none_of (range_kinds 0 0 (suc (length vs))) (set_fault false (with_index 1 (filled (flag_rule (codes "json")))) (v ∷ vs) rows) none).0)
+
 quiet_tame : IsTame check (with_index 1 (filled quiet_rule))
 quiet_tame [] rows none good = written check.rules (codes "quiet") (codes "true") [] rows refl good
 quiet_tame (v ∷ vs) rows none good = absurd (no_value_for_flag (length vs) (none_of (range_kinds 0 0 (suc (length vs))) (set_fault false (with_index 1 (filled quiet_rule)) (v ∷ vs) rows) none).0)
@@ -449,18 +453,21 @@ HasWindow = HasNumber (codes "window") 0 window_limit
 
 check_given : (words : List Text) → level_fault check [] nothing_held words false [] ≡ [] → HasWindow (rows_after check.rules [] words)
 check_given words none =
-    let tame : AreTame check check.rules = (cert_tame, (check_window_tame, (explain_tame, (quiet_tame, (check_help, tt))))) in
+    let tame : AreTame check check.rules = (cert_tame, (check_window_tame, (explain_tame, (json_tame, (quiet_tame, (check_help, tt)))))) in
     let start : List Row = (settled check.rules (walk check.rules [] nothing_held words).held).rows in
     let given : List Row = with_default start (with_index 1 (filled cert_rule)) in
     let windowed : List Row = with_default given (with_index 1 (filled window_rule)) in
     let explained : List Row = with_default windowed (with_index 1 (filled (flag_rule (codes "explain")))) in
-    let after : List Row = with_default explained (with_index 1 (filled quiet_rule)) in
+    let reported : List Row = with_default explained (with_index 1 (filled (flag_rule (codes "json")))) in
+    let after : List Row = with_default reported (with_index 1 (filled quiet_rule)) in
     let same : given ≡ start = unchanged (has_row (codes "cert") start) start in
     let good = subst (λ (rows : List Row). AreGood check.rules rows) (sym same) (leaf_good check tame words none).0 in
     let first = defaulted check.rules (codes "window") (codes "0") given refl refl good in
     let second = defaulted check.rules (codes "explain") (codes "false") windowed refl refl first.0 in
-    let last = defaulted check.rules (codes "quiet") (codes "false") explained refl refl second.0 in
-    let has = kept (codes "window") (codes "quiet") (codes "false") explained (kept (codes "window") (codes "explain") (codes "false") windowed first.1) in
+    let third = defaulted check.rules (codes "json") (codes "false") explained refl refl second.0 in
+    let last = defaulted check.rules (codes "quiet") (codes "false") reported refl refl third.0 in
+    let has = kept (codes "window") (codes "quiet") (codes "false") reported
+    (kept (codes "window") (codes "json") (codes "false") explained (kept (codes "window") (codes "explain") (codes "false") windowed first.1)) in
     let found = found_value check.rules (codes "window") after has last.0 in
     subst HasWindow (sym (unchanged (has_row (codes "help") after) after)) (found.0, found.2, found.3)
 
@@ -632,20 +639,22 @@ at_legs : (stop : Option (Text × List Text)) (rows : List Row) → StopsAtComma
     → entered_fault (built mcv_app) stop ≡ [] → HasAt rows
 at_legs None rows stops at none = absurd (cc)
 at_legs (Some p) rows (inl other) at none = absurd (name_apart (codes "check") (codes "legs") _ rows refl refl (at_name (codes "legs") (codes "check") p rows other at))
-at_legs (Some p) rows (inr (inr (inl other))) at none = absurd (name_apart (codes "mend") (codes "legs") _ rows refl refl (at_name (codes "legs") (codes "mend") p rows other at))
-at_legs (Some p) rows (inr (inr (inr (inl other)))) at none = absurd (name_apart (codes "run") (codes "legs") _ rows refl refl (at_name (codes "legs") (codes "run") p rows other at))
-at_legs (Some p) rows (inr (inr (inr (inr other)))) at none = absurd (name_apart (codes "spool") (codes "legs") _ rows refl refl (at_name (codes "legs") (codes "spool") p rows other at))
-at_legs (Some p) rows (inr (inl is)) at none =
+at_legs (Some p) rows (inr (inl other)) at none = absurd (name_apart (codes "draw") (codes "legs") _ rows refl refl (at_name (codes "legs") (codes "draw") p rows other at))
+at_legs (Some p) rows (inr (inr (inr (inl other)))) at none = absurd (name_apart (codes "mend") (codes "legs") _ rows refl refl (at_name (codes "legs") (codes "mend") p rows other at))
+at_legs (Some p) rows (inr (inr (inr (inr (inl other))))) at none = absurd (name_apart (codes "run") (codes "legs") _ rows refl refl (at_name (codes "legs") (codes "run") p rows other at))
+at_legs (Some p) rows (inr (inr (inr (inr (inr other))))) at none = absurd (name_apart (codes "spool") (codes "legs") _ rows refl refl (at_name (codes "legs") (codes "spool") p rows other at))
+at_legs (Some p) rows (inr (inr (inl is))) at none =
     let same : rows_after legs.rules [] p.1 ≡ rows = rows_there (codes "legs") (rows_after legs.rules [] p.1) rows (at_name (codes "legs") (codes "legs") p rows is at) in
     subst HasAt same (legs_given p.1 (no_fault_at (codes "legs") p is none))
 
 at_check : (stop : Option (Text × List Text)) (rows : List Row) → StopsAtCommand stop → entered (built mcv_app) stop ≡ Some (codes "check", rows)
     → entered_fault (built mcv_app) stop ≡ [] → HasWindow rows
 at_check None rows stops at none = absurd (cc)
-at_check (Some p) rows (inr (inl other)) at none = absurd (name_apart (codes "legs") (codes "check") _ rows refl refl (at_name (codes "check") (codes "legs") p rows other at))
-at_check (Some p) rows (inr (inr (inl other))) at none = absurd (name_apart (codes "mend") (codes "check") _ rows refl refl (at_name (codes "check") (codes "mend") p rows other at))
-at_check (Some p) rows (inr (inr (inr (inl other)))) at none = absurd (name_apart (codes "run") (codes "check") _ rows refl refl (at_name (codes "check") (codes "run") p rows other at))
-at_check (Some p) rows (inr (inr (inr (inr other)))) at none = absurd (name_apart (codes "spool") (codes "check") _ rows refl refl (at_name (codes "check") (codes "spool") p rows other at))
+at_check (Some p) rows (inr (inl other)) at none = absurd (name_apart (codes "draw") (codes "check") _ rows refl refl (at_name (codes "check") (codes "draw") p rows other at))
+at_check (Some p) rows (inr (inr (inl other))) at none = absurd (name_apart (codes "legs") (codes "check") _ rows refl refl (at_name (codes "check") (codes "legs") p rows other at))
+at_check (Some p) rows (inr (inr (inr (inl other)))) at none = absurd (name_apart (codes "mend") (codes "check") _ rows refl refl (at_name (codes "check") (codes "mend") p rows other at))
+at_check (Some p) rows (inr (inr (inr (inr (inl other))))) at none = absurd (name_apart (codes "run") (codes "check") _ rows refl refl (at_name (codes "check") (codes "run") p rows other at))
+at_check (Some p) rows (inr (inr (inr (inr (inr other))))) at none = absurd (name_apart (codes "spool") (codes "check") _ rows refl refl (at_name (codes "check") (codes "spool") p rows other at))
 at_check (Some p) rows (inl is) at none =
     let same : rows_after check.rules [] p.1 ≡ rows = rows_there (codes "check") (rows_after check.rules [] p.1) rows (at_name (codes "check") (codes "check") p rows is at) in
     subst HasWindow same (check_given p.1 (no_fault_at (codes "check") p is none))
@@ -654,10 +663,11 @@ at_run : (stop : Option (Text × List Text)) (rows : List Row) → StopsAtComman
     → entered_fault (built mcv_app) stop ≡ [] → HasAll rows
 at_run None rows stops at none = absurd (cc)
 at_run (Some p) rows (inl other) at none = absurd (name_apart (codes "check") (codes "run") _ rows refl refl (at_name (codes "run") (codes "check") p rows other at))
-at_run (Some p) rows (inr (inl other)) at none = absurd (name_apart (codes "legs") (codes "run") _ rows refl refl (at_name (codes "run") (codes "legs") p rows other at))
-at_run (Some p) rows (inr (inr (inl other))) at none = absurd (name_apart (codes "mend") (codes "run") _ rows refl refl (at_name (codes "run") (codes "mend") p rows other at))
-at_run (Some p) rows (inr (inr (inr (inr other)))) at none = absurd (name_apart (codes "spool") (codes "run") _ rows refl refl (at_name (codes "run") (codes "spool") p rows other at))
-at_run (Some p) rows (inr (inr (inr (inl is)))) at none =
+at_run (Some p) rows (inr (inl other)) at none = absurd (name_apart (codes "draw") (codes "run") _ rows refl refl (at_name (codes "run") (codes "draw") p rows other at))
+at_run (Some p) rows (inr (inr (inl other))) at none = absurd (name_apart (codes "legs") (codes "run") _ rows refl refl (at_name (codes "run") (codes "legs") p rows other at))
+at_run (Some p) rows (inr (inr (inr (inl other)))) at none = absurd (name_apart (codes "mend") (codes "run") _ rows refl refl (at_name (codes "run") (codes "mend") p rows other at))
+at_run (Some p) rows (inr (inr (inr (inr (inr other))))) at none = absurd (name_apart (codes "spool") (codes "run") _ rows refl refl (at_name (codes "run") (codes "spool") p rows other at))
+at_run (Some p) rows (inr (inr (inr (inr (inl is))))) at none =
     let same : rows_after run.rules [] p.1 ≡ rows = rows_there (codes "run") (rows_after run.rules [] p.1) rows (at_name (codes "run") (codes "run") p rows is at) in
     subst HasAll same (run_given p.1 (no_fault_at (codes "run") p is none))
 
@@ -665,10 +675,11 @@ at_spool : (stop : Option (Text × List Text)) (rows : List Row) → StopsAtComm
     → entered_fault (built mcv_app) stop ≡ [] → HasFile rows
 at_spool None rows stops at none = absurd (cc)
 at_spool (Some p) rows (inl other) at none = absurd (name_apart (codes "check") (codes "spool") _ rows refl refl (at_name (codes "spool") (codes "check") p rows other at))
-at_spool (Some p) rows (inr (inl other)) at none = absurd (name_apart (codes "legs") (codes "spool") _ rows refl refl (at_name (codes "spool") (codes "legs") p rows other at))
-at_spool (Some p) rows (inr (inr (inl other))) at none = absurd (name_apart (codes "mend") (codes "spool") _ rows refl refl (at_name (codes "spool") (codes "mend") p rows other at))
-at_spool (Some p) rows (inr (inr (inr (inl other)))) at none = absurd (name_apart (codes "run") (codes "spool") _ rows refl refl (at_name (codes "spool") (codes "run") p rows other at))
-at_spool (Some p) rows (inr (inr (inr (inr is)))) at none =
+at_spool (Some p) rows (inr (inl other)) at none = absurd (name_apart (codes "draw") (codes "spool") _ rows refl refl (at_name (codes "spool") (codes "draw") p rows other at))
+at_spool (Some p) rows (inr (inr (inl other))) at none = absurd (name_apart (codes "legs") (codes "spool") _ rows refl refl (at_name (codes "spool") (codes "legs") p rows other at))
+at_spool (Some p) rows (inr (inr (inr (inl other)))) at none = absurd (name_apart (codes "mend") (codes "spool") _ rows refl refl (at_name (codes "spool") (codes "mend") p rows other at))
+at_spool (Some p) rows (inr (inr (inr (inr (inl other))))) at none = absurd (name_apart (codes "run") (codes "spool") _ rows refl refl (at_name (codes "spool") (codes "run") p rows other at))
+at_spool (Some p) rows (inr (inr (inr (inr (inr is))))) at none =
     let same : rows_after spool.rules [] p.1 ≡ rows = rows_there (codes "spool") (rows_after spool.rules [] p.1) rows (at_name (codes "spool") (codes "spool") p rows is at) in
     subst HasFile same (spool_given p.1 (no_fault_at (codes "spool") p is none))
 

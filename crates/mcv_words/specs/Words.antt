@@ -18,7 +18,7 @@ use Rattle.mcv_words.specs.declared.options.Sessions.{Sessions}
 use Rattle.mcv_words.specs.declared.options.Settings.{Settings}
 use Rattle.mcv_words.specs.declared.options.SpoolOptions.{SpoolOptions}
 use Rattle.mcv_words.specs.declared.words.Job.{Job}
-use Rattle.mcv_words.specs.declared.words.Job.TheVariants.{Legs, Check, Mend, Run, Spool}
+use Rattle.mcv_words.specs.declared.words.Job.TheVariants.{Legs, Check, Draw, Mend, Run, Spool}
 use Rattle.mcv_words.specs.declared.words.LineFault.{LineFault}
 use Rattle.mcv_words.specs.declared.words.LineFault.TheVariants.{BadLine, Memory, Help, Version}
 
@@ -65,9 +65,14 @@ flag_rule name = record (new_rule name) {
 abbrev pub quiet_rule : Rule
 quiet_rule = record (flag_rule (codes "quiet")) { short = Some 113 }
 
--- `check [--cert FILE] [--window SECONDS] [--explain] [-q]`
+-- `check [--cert FILE] [--window SECONDS] [--explain] [--json] [-q]`
 abbrev pub check_app : App
-check_app = with_rule (with_rule (with_rule (with_rule (new_app (codes "check")) cert_rule) window_rule) (flag_rule (codes "explain"))) quiet_rule
+check_app =
+    with_rule (with_rule (with_rule (with_rule (with_rule (new_app (codes "check")) cert_rule) window_rule) (flag_rule (codes "explain"))) (flag_rule (codes "json"))) quiet_rule
+
+-- `draw [--dot]`
+abbrev pub draw_app : App
+draw_app = with_rule (new_app (codes "draw")) (flag_rule (codes "dot"))
 
 -- `mend [--patch]`
 abbrev pub mend_app : App
@@ -126,12 +131,13 @@ with_version app = record app { top = record app.top { has_version = true } }
 abbrev pub wanting_a_command : App → App
 wanting_a_command app = record app { top = record app.top { subcommand_required = true } }
 
--- `mcv check`, `mcv legs`, `mcv mend`, `mcv run` and `mcv spool` with their options; `mcv --version`
+-- the commands with their options, in the order of the help
+abbrev pub commands : List App
+commands = check_app ∷ draw_app ∷ legs_app ∷ mend_app ∷ run_app ∷ spool_app ∷ []
+
+-- `mcv check`, `mcv draw`, `mcv legs`, `mcv mend`, `mcv run` and `mcv spool` with their options; `mcv --version`
 abbrev pub mcv_app : App
-mcv_app =
-    with_subcommand
-    (with_subcommand (with_subcommand (with_subcommand (with_subcommand (wanting_a_command (with_version (new_app (codes "mcv")))) check_app.top) legs_app.top) mend_app.top) run_app.top)
-    spool_app.top
+mcv_app = fold (λ (app command : App). with_subcommand app command.top) (wanting_a_command (with_version (new_app (codes "mcv")))) commands
 
 -- ---- what words ask for
 
@@ -153,10 +159,10 @@ abbrev pub IsFlag : (flag : Text) → List Row → Bool → Type 0
 IsFlag flag rows b =
     (one_of flag rows ≡ Some (codes "true") → b ≡ true) × (one_of flag rows ≡ Some (codes "false") → b ≡ false) × (one_of flag rows ≡ None → b ≡ false)
 
--- the value of `--cert`, or none, that of `--window`, and whether `--explain` and `-q` are given
+-- the value of `--cert`, or none, that of `--window`, and whether `--explain`, `--json` and `-q` are given
 abbrev pub HasCheckValues : List Row → (cert : Option Text) → CheckOptions → Type 0
 HasCheckValues rows cert options = (cert ≡ first_of (codes "cert") rows) × IsNumberOf (codes "window") rows options.window.seconds
-    × IsFlag (codes "explain") rows options.explain × IsFlag (codes "quiet") rows options.quiet
+    × IsFlag (codes "explain") rows options.explain × IsFlag (codes "json") rows options.json × IsFlag (codes "quiet") rows options.quiet
 
 -- clap takes the words, and they name the command `check` with these values
 abbrev pub AsksCheck : List Text → (cert : Option Text) → CheckOptions → Type 0
@@ -165,6 +171,10 @@ AsksCheck words cert options = (faults words ≡ []) × (rows : List Row) × (na
 -- clap takes the words, and they name the command `mend`, with `--patch` or without
 abbrev pub AsksMend : List Text → (patch : Bool) → Type 0
 AsksMend words patch = (faults words ≡ []) × (rows : List Row) × (named words ≡ Some (codes "mend", rows)) × IsFlag (codes "patch") rows patch
+
+-- clap takes the words, and they name the command `draw`, with `--dot` or without
+abbrev pub AsksDraw : List Text → (dot : Bool) → Type 0
+AsksDraw words dot = (faults words ≡ []) × (rows : List Row) × (named words ≡ Some (codes "draw", rows)) × IsFlag (codes "dot") rows dot
 
 -- the value of an option that may be left out: none, or a number
 abbrev pub IsNumberIfGiven : (option : Text) → List Row → Option ℕ → Type 0
@@ -219,14 +229,25 @@ AsksSpool words order = (faults words ≡ []) × (rows : List Row) × (named wor
 abbrev pub IsCheckOf : List Row → Job → Type 0
 IsCheckOf rows (Legs at) = ⊥
 IsCheckOf rows (Check cert options) = HasCheckValues rows (option_map (λ name. name.now) cert) options
+IsCheckOf rows (Draw dot) = ⊥
 IsCheckOf rows (Mend patch) = ⊥
 IsCheckOf rows (Run options) = ⊥
 IsCheckOf rows (Spool options) = ⊥
+
+-- the job of `draw` with these values
+abbrev pub IsDrawOf : List Row → Job → Type 0
+IsDrawOf rows (Legs at) = ⊥
+IsDrawOf rows (Check cert options) = ⊥
+IsDrawOf rows (Draw dot) = IsFlag (codes "dot") rows dot
+IsDrawOf rows (Mend patch) = ⊥
+IsDrawOf rows (Run options) = ⊥
+IsDrawOf rows (Spool options) = ⊥
 
 -- the job of `mend` with these values
 abbrev pub IsMendOf : List Row → Job → Type 0
 IsMendOf rows (Legs at) = ⊥
 IsMendOf rows (Check cert options) = ⊥
+IsMendOf rows (Draw dot) = ⊥
 IsMendOf rows (Mend patch) = IsFlag (codes "patch") rows patch
 IsMendOf rows (Run options) = ⊥
 IsMendOf rows (Spool options) = ⊥
@@ -235,6 +256,7 @@ IsMendOf rows (Spool options) = ⊥
 abbrev pub IsRunOf : List Row → Job → Type 0
 IsRunOf rows (Legs at) = ⊥
 IsRunOf rows (Check cert options) = ⊥
+IsRunOf rows (Draw dot) = ⊥
 IsRunOf rows (Mend patch) = ⊥
 IsRunOf rows (Run options) = HasRunValues rows (order_of options)
 IsRunOf rows (Spool options) = ⊥
@@ -243,6 +265,7 @@ IsRunOf rows (Spool options) = ⊥
 abbrev pub IsSpoolOf : List Row → Job → Type 0
 IsSpoolOf rows (Legs at) = ⊥
 IsSpoolOf rows (Check cert options) = ⊥
+IsSpoolOf rows (Draw dot) = ⊥
 IsSpoolOf rows (Mend patch) = ⊥
 IsSpoolOf rows (Run options) = ⊥
 IsSpoolOf rows (Spool options) = HasSpoolValues rows (spool_order_of options)
@@ -270,6 +293,7 @@ pub record CanRun (rows : List Row) : Type 0 where
 abbrev pub IsJobOf : List Text → Job → Type 0
 IsJobOf words (Check cert options) = AsksCheck words (option_map (λ name. name.now) cert) options
 IsJobOf words (Legs at) = (faults words ≡ []) × (rows : List Row) × (named words ≡ Some (codes "legs", rows)) × IsNumberOf (codes "at") rows at.0
+IsJobOf words (Draw dot) = AsksDraw words dot
 IsJobOf words (Mend patch) = AsksMend words patch
 IsJobOf words (Run options) = AsksRun words (order_of options)
 IsJobOf words (Spool options) = AsksSpool words (spool_order_of options)

@@ -3,17 +3,19 @@
 pub(crate) const ABOUT: &str =
     "Verifies configurations of mcrouter, the routing proxy for memcached.
 `mcv check` decides whether a delete can be acknowledged that was never sent to
-a server which can be read, and `mcv mend` adds the deletes that are missing.
-`mcv legs` shows to which servers a configuration sends a request. `mcv run`
-serves clients by a configuration for which that can't happen, and `mcv spool`
-shows the deletes that it keeps in a file.";
+a server which can be read, `mcv draw` shows it in a picture, and `mcv mend`
+adds the deletes that are missing. `mcv legs` shows to which servers a
+configuration sends a request. `mcv run` serves clients by a configuration for
+which that can't happen, and `mcv spool` shows the deletes that it keeps in a
+file.";
 
 pub(crate) const EXAMPLE: &str =
-    "Examples: can a configuration lose a delete? Write it with the deletes that it
-lacks. Which servers does a delete of the key `a` reach? Serve clients at port
-5000.
+    "Examples: can a configuration lose a delete? Draw it, and write it with the
+deletes that it lacks. Which servers does a delete of the key `a` reach? Serve
+clients at port 5000.
 
   mcv check < mcrouter.json
+  mcv draw < mcrouter.json > tree.svg
   mcv mend < mcrouter.json > mended.json
   (echo 'delete a'; cat mcrouter.json) | mcv legs
   mcv run --listen 127.0.0.1:5000 --spool mcv.spool --server-timeout 1000 \\
@@ -78,6 +80,8 @@ pub(crate) const CHECK_ABOUT: &str = "Decides whether a configuration can lose a
 pub(crate) const CERT: &str = "A certificate in place of one that mcv makes";
 
 pub(crate) const EXPLAIN: &str = "The finding in sentences behind its text";
+
+pub(crate) const JSON: &str = "The verdict as JSON, or the fault in its place";
 
 pub(crate) const QUIET: &str = "One line on standard error for a fault, not two";
 
@@ -168,6 +172,47 @@ as `mcv: certificate fault NUMBER`:
   4  another hash, number of legs or server than the line says
   5  `never`, where a delete can be acknowledged
   7  the certificate is for another window
+
+A configuration that isn't read is reported as
+`mcv: configuration NUMBER at PATH`: `mcv legs --help` has the numbers.";
+
+pub(crate) const DRAW_ABOUT: &str = "Draws a configuration and what is found of it";
+
+pub(crate) const DOT: &str = "As a graph for Graphviz in place of SVG";
+
+pub(crate) const DRAW_FORM: &str =
+    "Standard input has the configuration as JSON; `mcv legs --help` says which route
+handles are read. Standard output has a picture of its routes:
+
+  mcv draw < mcrouter.json > tree.svg
+
+A box is a route handle, a pool's with its first four servers, and stands below
+the one that it is a child of; the word before its name is its policy, its side,
+its number or, of a shadow, the indexes that it gets. Behind it stands, where it
+is so:
+
+  [delete]  an acknowledged delete was sent there (red, dashed)
+  [read]    a get can be answered there (blue)
+  [LOST]    the server that can be read though no delete was sent to it
+
+Where a delete can be lost, the places of the finding that `mcv check` has are
+drawn thick, and its text stands below the trees. [delete] and [read] are of the
+finding's keys and era then, and else of all that the certificate names. Of more
+than 60 children of a handle the first 60 are drawn, and those of the finding.
+
+With `--dot` standard output has the same handles as a graph for Graphviz,
+without the text below:
+
+  mcv draw --dot < mcrouter.json | dot -Tpdf > tree.pdf
+
+As with `mcv check` without `--window`, a read and a delete are judged at one
+stage of each migration.
+
+Exit status:
+  0  drawn, also where a delete can be lost, or help was asked for
+  1  bad command line
+  2  the configuration is refused
+  4  out of memory, or a device failed: standard input or standard output
 
 A configuration that isn't read is reported as
 `mcv: configuration NUMBER at PATH`: `mcv legs --help` has the numbers.";

@@ -155,6 +155,8 @@ pub struct CheckOptions {
     pub window: Window,
     /// With an explanation behind the verdict.
     pub explain: bool,
+    /// As a report in JSON in place of its text.
+    pub json: bool,
     /// With one line for a fault, in place of two.
     pub quiet: bool,
 }

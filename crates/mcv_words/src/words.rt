@@ -5,13 +5,14 @@ ghost use Rattle.std.specs.Prelude.{◌≡◌, codes, false, option_map, IfOk, I
 ghost use Rattle.clap.specs.Words.{Text, app_of, first_of, found_of, kind_of, rows_of, rule_of};
 ghost use Rattle.clap.specs.declared.builder.command.Command.TheViews.{out-Command as fields_of};
 ghost use Rattle.mcv_words.specs.Ranges.{window_limit};
-ghost use Rattle.mcv_words.specs.Words.{at_rule, cert_rule, check_app, client_timeout_rule, file_rule, flag_rule, legs_app, line_fault_number, listen_rule, max_clients_rule, mcv_app, mend_app, proxies_rule, quiet_rule, run_app, server_timeout_rule, sessions_rule, spool_app, spool_rule, window_rule, CanRun, IsCheckOf, IsFaultOfKind, IsGivenIn, IsJobOf, IsLineFault, IsMendOf, IsNumberIfGiven, IsRunOf, IsSpoolOf, MayBeGivenIn};
+ghost use Rattle.mcv_words.specs.Words.{at_rule, cert_rule, check_app, client_timeout_rule, file_rule, flag_rule, draw_app, legs_app, line_fault_number, listen_rule, max_clients_rule, mcv_app, mend_app, proxies_rule, quiet_rule, run_app, server_timeout_rule, sessions_rule, spool_app, spool_rule, window_rule, CanRun, IsCheckOf, IsDrawOf, IsFaultOfKind, IsGivenIn, IsJobOf, IsLineFault, IsMendOf, IsNumberIfGiven, IsRunOf, IsSpoolOf, MayBeGivenIn};
 ghost use Rattle.mcv_words.specs.declared.words.LineFault.TheVariants.{Memory as out_of_memory};
 
 use crate::help::{
-    ABOUT, ALL, AT, CERT, CHECK_ABOUT, CHECK_FORM, CLIENT_TIMEOUT, EXAMPLE, EXPLAIN, FILE,
-    LEGS_ABOUT, LEGS_FORM, LISTEN, MAX_CLIENTS, MEND_ABOUT, MEND_FORM, PATCH, PROXIES, QUIET,
-    RUN_ABOUT, RUN_FORM, SERVER_TIMEOUT, SESSIONS, SPOOL, SPOOL_ABOUT, SPOOL_FORM, WINDOW,
+    ABOUT, ALL, AT, CERT, CHECK_ABOUT, CHECK_FORM, CLIENT_TIMEOUT, DOT, DRAW_ABOUT, DRAW_FORM,
+    EXAMPLE, EXPLAIN, FILE, JSON, LEGS_ABOUT, LEGS_FORM, LISTEN, MAX_CLIENTS, MEND_ABOUT,
+    MEND_FORM, PATCH, PROXIES, QUIET, RUN_ABOUT, RUN_FORM, SERVER_TIMEOUT, SESSIONS, SPOOL,
+    SPOOL_ABOUT, SPOOL_FORM, WINDOW,
 };
 use crate::options::{
     CheckOptions, ClientTimeout, InRange, MaxClients, Proxies, RunOptions, ServerTimeout, Sessions,
@@ -35,6 +36,10 @@ pub enum Job<'a> {
     Check {
         cert: Option<&'a str>,
         options: CheckOptions,
+    },
+    /// To draw a configuration, as SVG or for Graphviz.
+    Draw {
+        dot: bool,
     },
     /// To mend a configuration, or to write the patch that mends it.
     Mend {
@@ -152,12 +157,27 @@ fn check_command<'a>(alloc: Global) -> Result<Command<'a>, AllocError>
 {
     Command::new(alloc, "check")
         .about(CHECK_ABOUT)
-        .override_usage("mcv check [--cert FILE] [--window SECONDS] [--explain] [-q] < FILE")
+        .override_usage(
+            "mcv check [--cert FILE] [--window SECONDS] [--explain] [--json]
+                 [-q] < FILE",
+        )
         .after_help(CHECK_FORM)
         .arg(cert_option(alloc))?
         .arg(window_option(alloc))?
         .arg(flag(alloc, "explain", EXPLAIN))?
+        .arg(flag(alloc, "json", JSON))?
         .arg(quiet_flag(alloc))
+}
+
+fn draw_command<'a>(alloc: Global) -> Result<Command<'a>, AllocError>
+    ensures app { IfOk result (λ c. app_of c ≡ draw_app) }
+    ensures local { IfOk result (λ c. (fields_of c).has_globals ≡ false) }
+{
+    Command::new(alloc, "draw")
+        .about(DRAW_ABOUT)
+        .override_usage("mcv draw [--dot] < FILE")
+        .after_help(DRAW_FORM)
+        .arg(flag(alloc, "dot", DOT))
 }
 
 fn mend_command<'a>(alloc: Global) -> Result<Command<'a>, AllocError>
@@ -293,6 +313,7 @@ fn command<'a>(alloc: Global) -> Result<Command<'a>, AllocError>
     ensures { IfOk result (λ c. app_of c ≡ mcv_app) }
 {
     let check = check_command(alloc)?;
+    let draw = draw_command(alloc)?;
     let legs = legs_command(alloc)?;
     let mend = mend_command(alloc)?;
     let run = run_command(alloc)?;
@@ -304,6 +325,7 @@ fn command<'a>(alloc: Global) -> Result<Command<'a>, AllocError>
         .subcommand_required(true)
         .bin_name("mcv")?
         .subcommand(check)?
+        .subcommand(draw)?
         .subcommand(legs)?
         .subcommand(mend)?
         .subcommand(run)?
@@ -351,15 +373,25 @@ fn check_job<'a>(found: &ArgMatches<'a>) -> Result<Job<'a>, LineFault>
         return Err(LineFault::BadLine);
     };
     let explain = found.get_flag("explain");
+    let json = found.get_flag("json");
     let quiet = found.get_flag("quiet");
     Ok(Job::Check {
         cert,
         options: CheckOptions {
             window,
             explain,
+            json,
             quiet,
         },
     })
+}
+
+/// The job of `draw`, by what clap found for its options.
+fn draw_job<'a>(found: &ArgMatches<'a>) -> Job<'a>
+    ensures { IsDrawOf (rows_of (found_of found.now)) result }
+{
+    let dot = found.get_flag("dot");
+    Job::Draw { dot }
 }
 
 /// The job of `mend`, by what clap found for its options.
@@ -447,6 +479,9 @@ pub fn read_words<'a>(alloc: Global, words: &'a [&'a str]) -> Result<Job<'a>, Li
             return Err(LineFault::BadLine);
         };
         return Ok(job);
+    }
+    if let Some(drawing) = matches.subcommand_matches("draw") {
+        return Ok(draw_job(drawing));
     }
     let Some(found) = matches.subcommand_matches("legs") else {
         return Err(LineFault::BadLine);

@@ -3,8 +3,8 @@ use Rattle.std.specs.Prelude.{IfSome}
 use Rattle.std.proofs.lemmas.Result.{err_from_is_err_and}
 use Rattle.mcv_command.specs.Program.{Held, IsJudgingFault}
 use Rattle.mcv_command.specs.declared.stop.Stop.{Stop}
-use Rattle.mcv_command.proofs.ProgramEnds.{fault_by_all, given_all, read_limit, verdict_as_by_all}
-use Rattle.mcv_show.specs.Explained.{IsVerdictAs}
+use Rattle.mcv_command.proofs.ProgramEnds.{fault_by_all, given_all, outside_unreported, read_limit, reported_stop, verdict_as_by_all}
+use Rattle.mcv_show.specs.AsAsked.{IsVerdictAs}
 use Rattle.mcv_verdict.specs.Fault as check
 use Rattle.mcv_command.proofs.program.judge_by.Goals as goal
 
@@ -46,3 +46,13 @@ returns-clause-done g c =
       ok.2,
       c.ending_of.ensures,
     )
+
+pub returns-in_err-text-clause-reported : goal.returns-in_err-text-clause-reported
+returns-in_err-text-clause-reported g c =
+    let gone = err_from_is_err_and c.from_residual.result c.from_residual.ensures.1 in
+    rw (gone.1) (λ on. outside_unreported _ _ _ gone.0 c.in_err-text.field-0.0 gone.2 c.in_err-text.ensures.fault)
+
+pub returns-in_err-verdict-clause-reported : goal.returns-in_err-verdict-clause-reported
+returns-in_err-verdict-clause-reported g c =
+    let gone = err_from_is_err_and c.from_residual-in_err-verdict.result c.from_residual-in_err-verdict.ensures.1 in
+    rw (gone.1) (λ on. reported_stop _ _ _ gone.0 c.in_err-verdict.field-0.0 gone.2 (c.in_err-verdict.ensures.reported on))

@@ -9,5 +9,5 @@ use Rattle.mcv_mended.proofs.mended.are_asked_well.Given as goal
 
 -- it is so for the operations so far
 abbrev pub invariant-loop-op : goal.invariant-loop-op
-invariant-loop-op l = (r n : RoutesValue) → IsNumbering r n l.sides.numbering.now
-    → All (IsAskedWell r n (view l.sides.before.now) (view l.sides.after.now) l.rest (option_map (λ (m : Moment). m.0) l.since) (legs_value l.legs)) (take l.op-index l.operations)
+invariant-loop-op l = (r n : RoutesValue) → IsNumbering r n l.begun.sides.now.numbering.now
+    → All (IsAskedWell r n (view l.begun.sides.now.before.now) (view l.begun.sides.now.after.now) l.rest (option_map (λ (m : Moment). m.0) l.since) (legs_value l.legs)) (take l.op-index l.operations)

@@ -9,5 +9,5 @@ use Rattle.mcv_mended.proofs.mended.is_member_mended.Given as goal
 
 -- it is so in the eras so far
 abbrev pub invariant-loop-era : goal.invariant-loop-era
-invariant-loop-era l = (n : RoutesValue) → IsNumbering l.routes n l.sides.numbering.now → (era : ℕ) (since : Option ℕ) → era < l.era → IsEraOf l.routes era since
-    → (op : Op) → IsAskedWell l.routes n (view l.sides.before.now) (view l.sides.after.now) l.rest since (legs_value l.legs) op
+invariant-loop-era l = (n : RoutesValue) → IsNumbering l.routes n l.begun.sides.now.numbering.now → (era : ℕ) (since : Option ℕ) → era < l.era → IsEraOf l.routes era since
+    → (op : Op) → IsAskedWell l.routes n (view l.begun.sides.now.before.now) (view l.begun.sides.now.after.now) l.rest since (legs_value l.legs) op

@@ -1,4 +1,4 @@
-use Rattle.std.proofs.Common.{◌≡◌, ◌∷◌, [], ◌++◌, take, flat_map}
+use Rattle.std.proofs.Common.{◌≡◌, ◌∷◌, ◌++◌, take, flat_map}
 use Rattle.mcv_spans.specs.Quoted.{escaped_byte}
 use Rattle.mcv_spans.proofs.quoted.push_quoted.Given as goal
 

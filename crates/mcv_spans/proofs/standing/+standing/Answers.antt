@@ -1,4 +1,4 @@
-use Rattle.std.proofs.Common.{◌≡◌, ℕ, ap, refl, subst}
+use Rattle.std.proofs.Common.{ℕ, ap, refl, subst}
 use Rattle.std.proofs.lemmas.Result.{IfOk-weaker}
 use Rattle.mcv_spans.proofs.Views.{items_on, list_stands, object_stands, text_stands, word_stands}
 use Rattle.mcv_spans.specs.Place.{view}

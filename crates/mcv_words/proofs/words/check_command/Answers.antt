@@ -16,7 +16,9 @@ returns-clause-app c =
     c.in_ok-arg-2.ensures.shape c.window_option.ensures.local ∙ ap₂ with_rule one c.window_option.ensures.rule in
     let three : app_of c.in_ok-arg-3.field-0 ≡ with_rule (with_rule (with_rule (new_app (codes "check")) cert_rule) window_rule) (flag_rule (codes "explain")) =
     c.in_ok-arg-3.ensures.shape c.flag.ensures.local ∙ ap₂ with_rule two c.flag.ensures.rule in
-    IfOk-weaker c.arg-4.result _ _ (λ m adds. adds.shape c.quiet_flag.ensures.local ∙ ap₂ with_rule three c.quiet_flag.ensures.rule) c.arg-4.ensures
+    let four : app_of c.in_ok-arg-4.field-0 ≡ with_rule (with_rule (with_rule (with_rule (new_app (codes "check")) cert_rule) window_rule) (flag_rule (codes "explain"))) (flag_rule (codes "json")) =
+    c.in_ok-arg-4.ensures.shape c.flag-2.ensures.local ∙ ap₂ with_rule three c.flag-2.ensures.rule in
+    IfOk-weaker c.arg-5.result _ _ (λ m adds. adds.shape c.quiet_flag.ensures.local ∙ ap₂ with_rule four c.quiet_flag.ensures.rule) c.arg-5.ensures
 
 pub returns-clause-local : goal.returns-clause-local
 returns-clause-local c =
@@ -25,4 +27,5 @@ returns-clause-local c =
     let one : (fields_of c.in_ok-arg.field-0).has_globals ≡ false = rw (c.in_ok-arg.ensures.globals, described) c.cert_option.ensures.local in
     let two : (fields_of c.in_ok-arg-2.field-0).has_globals ≡ false = rw (c.in_ok-arg-2.ensures.globals, one) c.window_option.ensures.local in
     let three : (fields_of c.in_ok-arg-3.field-0).has_globals ≡ false = rw (c.in_ok-arg-3.ensures.globals, two) c.flag.ensures.local in
-    IfOk-weaker c.arg-4.result _ _ (λ m adds. rw (adds.globals, three) c.quiet_flag.ensures.local) c.arg-4.ensures
+    let four : (fields_of c.in_ok-arg-4.field-0).has_globals ≡ false = rw (c.in_ok-arg-4.ensures.globals, three) c.flag-2.ensures.local in
+    IfOk-weaker c.arg-5.result _ _ (λ m adds. rw (adds.globals, four) c.quiet_flag.ensures.local) c.arg-5.ensures

@@ -8,7 +8,7 @@ use Rattle.clap.proofs.ValueTestLemmas.{accepts-Accepts}
 use Rattle.mcv_words.specs.Ranges.{window_limit}
 use Rattle.mcv_words.specs.Words.{mcv_app}
 use Rattle.mcv_words.proofs.OptionValues.{at_parser, check_values, legs_values, run_values, spool_values}
-use Rattle.mcv_words.proofs.Matches.{can_run, check_asked, fault_of_kind, given_in, named_rows, name_of_rows, no_number, number_of, run_asked, spool_asked, mend_asked}
+use Rattle.mcv_words.proofs.Matches.{can_run, check_asked, draw_asked, fault_of_kind, given_in, named_rows, name_of_rows, no_number, number_of, run_asked, spool_asked, mend_asked}
 use Rattle.mcv_words.proofs.CommandIsNamed.{taken}
 use Rattle.mcv_words.proofs.words.read_words.Goals as goal
 
@@ -91,17 +91,27 @@ returns-in-Some-subcommand_matches-3-clause-job c =
     let spool = sym held ∙ named_rows c.in-Ok.matches (codes "spool") (rows_of found) (c.in-Some-subcommand_matches-3.ensures.found.0 refl) c.in-Some-subcommand_matches-3.ensures.rows in
     spool_asked words (rows_of found) c.in-Ok-spool_job.job none spool c.in-Ok-spool_job.ensures.job
 
-pub returns-in_default-subcommand_matches-4-clause-fault : goal.returns-in_default-subcommand_matches-4-clause-fault
-returns-in_default-subcommand_matches-4-clause-fault c =
+pub returns-in-Some-subcommand_matches-4-clause-job : goal.returns-in-Some-subcommand_matches-4-clause-job
+returns-in-Some-subcommand_matches-4-clause-job c =
+    let words : List Text = map (λ w. w.now) c.args.words.now in
+    let held = (c.in-Ok.ensures.matches (ap is_simple c.in_ok-command.ensures ∙ simple)).1 ∙ ap (λ (a : App). subcommand_of a words) c.in_ok-command.ensures in
+    let none = sym (ap (λ (a : App). fault_of a words) c.in_ok-command.ensures) ∙ c.in-Ok.ensures.kinds (ap is_simple_and_free c.in_ok-command.ensures ∙ free) in
+    let found = found_of c.in-Some-subcommand_matches-4.drawing.now in
+    let draw = sym held ∙ named_rows c.in-Ok.matches (codes "draw") (rows_of found) (c.in-Some-subcommand_matches-4.ensures.found.0 refl) c.in-Some-subcommand_matches-4.ensures.rows in
+    draw_asked words (rows_of found) c.draw_job.result none draw c.draw_job.ensures
+
+pub returns-in_default-subcommand_matches-5-clause-fault : goal.returns-in_default-subcommand_matches-5-clause-fault
+returns-in_default-subcommand_matches-5-clause-fault c =
     let words : List Text = map (λ w. w.now) c.args.words.now in
     let held = (c.in-Ok.ensures.matches (ap is_simple c.in_ok-command.ensures ∙ simple)).1 ∙ ap (λ (a : App). subcommand_of a words) c.in_ok-command.ensures in
     let none = sym (ap (λ (a : App). fault_of a words) c.in_ok-command.ensures) ∙ c.in-Ok.ensures.kinds (ap is_simple_and_free c.in_ok-command.ensures ∙ free) in
     absurd (elim (taken words none) [
       | inl check ↦ true≢false (sym (c.in_default.ensures.found.1 (name_of_rows c.in-Ok.matches (codes "check") check.0 (held ∙ check.1))))
-      | inr (inl legs) ↦ true≢false (sym (c.in_default-subcommand_matches-4.ensures.found.1 (name_of_rows c.in-Ok.matches (codes "legs") legs.0 (held ∙ legs.1))))
-      | inr (inr (inl mend)) ↦ true≢false (sym (c.in_default-subcommand_matches.ensures.found.1 (name_of_rows c.in-Ok.matches (codes "mend") mend.0 (held ∙ mend.1))))
-      | inr (inr (inr (inl run))) ↦ true≢false (sym (c.in_default-subcommand_matches-2.ensures.found.1 (name_of_rows c.in-Ok.matches (codes "run") run.0 (held ∙ run.1))))
-      | inr (inr (inr (inr spool))) ↦ true≢false (sym (c.in_default-subcommand_matches-3.ensures.found.1 (name_of_rows c.in-Ok.matches (codes "spool") spool.0 (held ∙ spool.1))))
+      | inr (inl draw) ↦ true≢false (sym (c.in_default-subcommand_matches-4.ensures.found.1 (name_of_rows c.in-Ok.matches (codes "draw") draw.0 (held ∙ draw.1))))
+      | inr (inr (inl legs)) ↦ true≢false (sym (c.in_default-subcommand_matches-5.ensures.found.1 (name_of_rows c.in-Ok.matches (codes "legs") legs.0 (held ∙ legs.1))))
+      | inr (inr (inr (inl mend))) ↦ true≢false (sym (c.in_default-subcommand_matches.ensures.found.1 (name_of_rows c.in-Ok.matches (codes "mend") mend.0 (held ∙ mend.1))))
+      | inr (inr (inr (inr (inl run)))) ↦ true≢false (sym (c.in_default-subcommand_matches-2.ensures.found.1 (name_of_rows c.in-Ok.matches (codes "run") run.0 (held ∙ run.1))))
+      | inr (inr (inr (inr (inr spool)))) ↦ true≢false (sym (c.in_default-subcommand_matches-3.ensures.found.1 (name_of_rows c.in-Ok.matches (codes "spool") spool.0 (held ∙ spool.1))))
     ])
 
 pub returns-in_default-get_one-clause-fault : goal.returns-in_default-get_one-clause-fault
@@ -109,8 +119,8 @@ returns-in_default-get_one-clause-fault c =
     let words : List Text = map (λ w. w.now) c.args.words.now in
     let held = (c.in-Ok.ensures.matches (ap is_simple c.in_ok-command.ensures ∙ simple)).1 ∙ ap (λ (a : App). subcommand_of a words) c.in_ok-command.ensures in
     let none = sym (ap (λ (a : App). fault_of a words) c.in_ok-command.ensures) ∙ c.in-Ok.ensures.kinds (ap is_simple_and_free c.in_ok-command.ensures ∙ free) in
-    let found = found_of c.in-Some-subcommand_matches-4.found.now in
-    let legs = sym held ∙ named_rows c.in-Ok.matches (codes "legs") (rows_of found) (c.in-Some-subcommand_matches-4.ensures.found.0 refl) c.in-Some-subcommand_matches-4.ensures.rows in
+    let found = found_of c.in-Some-subcommand_matches-5.found.now in
+    let legs = sym held ∙ named_rows c.in-Ok.matches (codes "legs") (rows_of found) (c.in-Some-subcommand_matches-5.ensures.found.0 refl) c.in-Some-subcommand_matches-5.ensures.rows in
     let at = legs_values words (rows_of found) none legs in
     let takes = accepts-Accepts false at_parser at.0 at.2 in
     absurd (no_number (λ bs r. ParsesUnsigned 64 10 bs r × ExplainsUnsignedError 10 bs r × HasUnsignedDigitsIfOk bs r) at.0 (λ t x h. h.0) takes.0 takes.1
@@ -121,8 +131,8 @@ returns-clause-job c =
     let words : List Text = map (λ w. w.now) c.args.words.now in
     let held = (c.in-Ok.ensures.matches (ap is_simple c.in_ok-command.ensures ∙ simple)).1 ∙ ap (λ (a : App). subcommand_of a words) c.in_ok-command.ensures in
     let none = sym (ap (λ (a : App). fault_of a words) c.in_ok-command.ensures) ∙ c.in-Ok.ensures.kinds (ap is_simple_and_free c.in_ok-command.ensures ∙ free) in
-    let found = found_of c.in-Some-subcommand_matches-4.found.now in
-    let legs = sym held ∙ named_rows c.in-Ok.matches (codes "legs") (rows_of found) (c.in-Some-subcommand_matches-4.ensures.found.0 refl) c.in-Some-subcommand_matches-4.ensures.rows in
+    let found = found_of c.in-Some-subcommand_matches-5.found.now in
+    let legs = sym held ∙ named_rows c.in-Ok.matches (codes "legs") (rows_of found) (c.in-Some-subcommand_matches-5.ensures.found.0 refl) c.in-Some-subcommand_matches-5.ensures.rows in
     let at = legs_values words (rows_of found) none legs in (
       none,
       rows_of found,

@@ -1,0 +1,4 @@
+mod RoutesInTurn
+mod Verdicts
+mod Marking
+mod Reaching

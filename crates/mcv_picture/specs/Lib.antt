@@ -1,0 +1,3 @@
+pub mod Drawing
+pub mod Found
+pub mod Reached
