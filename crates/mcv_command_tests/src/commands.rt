@@ -65,13 +65,13 @@ mcv run --listen h:1 --spool f --sessions -1: bad line
 mcv run --listen h:1 --spool f --sessions all: bad line
 mcv run --listen h:1 --spool f --sessions: bad line
 mcv run --listen h:1 --spool f --sessions 1 --sessions 2: bad line
-mcv run --listen h:1 --spool f --proxies 1: run h:1 f - 1 0 - - -
-mcv run --listen h:1 --spool f --proxies=64 --sessions 7: run h:1 f 7 64 0 - - -
-mcv run --listen h:1 --spool f --proxies 65: bad line
-mcv run --listen h:1 --spool f --proxies 0: bad line
-mcv run --listen h:1 --spool f --proxies auto: bad line
-mcv run --listen h:1 --spool f --proxies: bad line
-mcv run --listen h:1 --spool f --proxies 1 --proxies 2: bad line
+mcv run --listen h:1 --spool f --hubs 1: run h:1 f - 1 0 - - -
+mcv run --listen h:1 --spool f --hubs=8 --sessions 7: run h:1 f 7 8 0 - - -
+mcv run --listen h:1 --spool f --hubs 9: bad line
+mcv run --listen h:1 --spool f --hubs 0: bad line
+mcv run --listen h:1 --spool f --hubs auto: bad line
+mcv run --listen h:1 --spool f --hubs: bad line
+mcv run --listen h:1 --spool f --hubs 1 --hubs 2: bad line
 mcv run --listen h:1 --spool f --server-timeout 200: run h:1 f - 1 0 200 - -
 mcv run --listen h:1 --spool f --server-timeout=1 --client-timeout=3600000: run h:1 f - 1 0 1 3600000 -
 mcv run --listen h:1 --spool f --client-timeout 200: run h:1 f - 1 0 - 200 -
@@ -152,13 +152,13 @@ fn order_text(rt: &(impl AllocGlobal + Abort), options: RunOptions<'_>) -> Strin
         settings,
     } = options;
     let sessions = number_text(rt, settings.sessions.map(|sessions| sessions.count));
-    let proxies = settings.proxies.count;
+    let hubs = settings.hubs.count;
     let window = settings.window.seconds;
     let server = number_text(rt, settings.server_timeout.map(|timeout| timeout.millis));
     let client = number_text(rt, settings.client_timeout.map(|timeout| timeout.millis));
     let clients = number_text(rt, settings.max_clients.map(|clients| clients.count));
     let text = format!(in rt.alloc();
-        "{listen} {spool} {sessions} {proxies} {window} {server} {client} {clients}"
+        "{listen} {spool} {sessions} {hubs} {window} {server} {client} {clients}"
     );
     text.expect(rt, "memory")
 }
@@ -288,10 +288,10 @@ impl Proxy for Listed {
         }
         let servers = accepted.routes().servers().len();
         let sessions = settings.sessions.map_or(0, |sessions| sessions.count);
-        let proxies = settings.proxies.count;
+        let hubs = settings.hubs.count;
         let millis = settings.server_timeout.map_or(0, |timeout| timeout.millis);
         let Ok(line) = format!(in alloc;
-            "{listen} {spool} {sessions} {proxies} {millis} of {servers}\n"
+            "{listen} {spool} {sessions} {hubs} {millis} of {servers}\n"
         ) else {
             return Err(RunFault::Memory);
         };
@@ -434,12 +434,12 @@ const RUN_PARTS: &[&str] = &[
     "--listen <ADDRESS>",
     "--spool <FILE>",
     "--sessions <N>",
-    "--proxies <N>",
+    "--hubs <N>",
     "[default: 1]",
     "--server-timeout <MS>",
     "--client-timeout <MS>",
     "--max-clients <N>",
-    "mcrouter's `--num-proxies`",
+    "the keys whose hash names\nit",
     "\n  mcv run --listen 127.0.0.1:5000 --spool mcv.spool --server-timeout 1000 \\\n    < mcrouter.json\n",
     "\n  mcv listening 127.0.0.1:5000 pending 0\n",
     "\n  mcv closed calls 12\n",
@@ -678,7 +678,7 @@ fn patches_are_written(rt: HostRuntime) {
     check_said(&rt, &words, "{", "mcv: configuration 1 at .", 2);
 }
 
-/// What the program says and does where it is to serve three sessions at an address by two proxies.
+/// What the program says and does where it is to serve three sessions at an address by two hubs.
 fn check_run(
     rt: &(impl AllocGlobal + Abort),
     address: &str,
@@ -695,7 +695,7 @@ fn check_run(
         "f",
         "--sessions",
         "3",
-        "--proxies",
+        "--hubs",
         "2",
         "--server-timeout",
         "200",

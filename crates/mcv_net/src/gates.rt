@@ -184,9 +184,9 @@ where
     }
 
     fn hubs(&self) -> usize
-        ensures { result ≡ self.now.settings.proxies.count }
+        ensures { result ≡ self.now.settings.hubs.count }
     {
-        self.settings.proxies.count as usize
+        self.settings.hubs.count as usize
     }
 
     fn disk(&mut self) -> Option<D> {

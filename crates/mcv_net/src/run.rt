@@ -7,7 +7,7 @@ use crate::gates::NetGates;
 use crate::lines::{closed_line, print_line};
 use crate::notice::{Notice, Notices, StandardError};
 use mcv_check::Accepted;
-use mcv_proxy::start;
+use mcv_fleet::start;
 use mcv_spool::{Disk, FileDisk};
 use mcv_words::{RunOptions, Settings};
 use std::alloc::Global;

@@ -7,7 +7,7 @@ ghost use Rattle.mcv_core.specs.Opening.{opened_view};
 use crate::memory::{Course, End, MemoryDial, Nobody, Seen};
 use mcv_base::{LegRequest, Op, Reply, Rest};
 use mcv_check::Accepted;
-use mcv_hub::{Hub, HubLedger, Pass};
+use mcv_hub::{Capacity, Hub, HubLedger, Pass};
 use mcv_net::{Notice, TcpLink};
 use mcv_proxy::{Link, LinkFault};
 use mcv_verdict::{Judgement, judge_input};
@@ -38,9 +38,11 @@ fn pass_of<B: HubLedger, T: Ledger>(
 ) -> Pass
     requires begun { (begun.name ≡ B.name) × (begun.parts ≡ B.parts) × (begun.parts ≡ 2) }
     requires taken { (taken.name ≡ T.name) × (taken.parts ≡ T.parts) × (taken.parts ≡ 2) }
+    requires number { 0 ≡ B.number }
     requires opened { B.opened ≡ opened_view (arc_value accepted) [] }
 {
-    let made = Hub::<B, T>::new(alloc, accepted, &[], 1, 1, begun, taken);
+    let capacity = Capacity { bells: 1, seats: 1 };
+    let made = Hub::<B, T>::new(alloc, accepted, 0, &[], capacity, begun, taken);
     let (_hub, passes) = made.expect(rt, "memory");
     passes.pass()
 }

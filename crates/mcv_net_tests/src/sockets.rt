@@ -3,7 +3,7 @@
 use crate::links::accepted_of;
 use mcv_check::Accepted;
 use mcv_net::{SpoolFiles, listen, run_proxy};
-use mcv_words::{InRange, Proxies, ServerTimeout, Sessions, Settings, Window};
+use mcv_words::{Hubs, InRange, ServerTimeout, Sessions, Settings, Window};
 use std::alloc::Global;
 use std::io::{Eprint, Read, Write};
 use std::net::{Net, TcpListener, TcpStream};
@@ -67,11 +67,11 @@ fn is_answered_at<R: Net<Stream = TcpStream>>(
     true
 }
 
-/// What each client asks, and what it and the proxies' lines say.
+/// What each client asks, and what it and the proxy's lines say.
 #[derive(Clone, Copy)]
 struct Visit {
     clients: u64,
-    proxies: u64,
+    hubs: u64,
     request: &'static str,
     reply: &'static str,
     pending: usize,
@@ -92,7 +92,7 @@ fn address_of(rt: &impl Abort, alloc: Global, listener: &TcpListener) -> String 
     format!(in alloc; "{address}").expect(rt, "memory")
 }
 
-/// The lines of proxies that serve such clients.
+/// The lines of a proxy that serves such clients.
 fn lines_of(rt: &impl Abort, alloc: Global, address: &str, visit: &Visit) -> String {
     let lines = format!(in alloc;
         "mcv listening {address} pending {}\nmcv closed calls {}\n",
@@ -101,11 +101,11 @@ fn lines_of(rt: &impl Abort, alloc: Global, address: &str, visit: &Visit) -> Str
     lines.expect(rt, "memory")
 }
 
-/// So many clients, served by so many proxies, with half a minute for each reply.
+/// So many clients, served by so many hubs, with half a minute for each reply.
 fn settings_of(rt: &impl Abort, visit: &Visit) -> Settings {
     Settings {
         sessions: Some(Sessions::new(visit.clients).expect(rt, "some clients")),
-        proxies: Proxies::new(visit.proxies).expect(rt, "some proxies"),
+        hubs: Hubs::new(visit.hubs).expect(rt, "some hubs"),
         window: Window::new(0).expect(rt, "a window"),
         server_timeout: ServerTimeout::new(30_000),
         client_timeout: None,
@@ -113,7 +113,7 @@ fn settings_of(rt: &impl Abort, visit: &Visit) -> Settings {
     }
 }
 
-/// Whether proxies to one server, with the spool in this file, serve clients so.
+/// Whether a proxy to one server, with the spool in this file, serves clients so.
 fn is_served<R>(rt: R, alloc: Global, server: &str, spool: &str, visit: Visit) -> bool
 where
     R: Net<Stream = TcpStream, Listener = TcpListener>
@@ -153,7 +153,7 @@ where
 
 const GET: Visit = Visit {
     clients: 1,
-    proxies: 1,
+    hubs: 1,
     request: "get a\r\n",
     reply: "VALUE a 0 1\r\nx\r\nEND\r\n",
     pending: 0,
@@ -185,7 +185,7 @@ where
 
 const DELETE: Visit = Visit {
     clients: 1,
-    proxies: 1,
+    hubs: 1,
     request: "delete a\r\n",
     reply: "NOT_FOUND\r\n",
     pending: 0,
@@ -194,7 +194,7 @@ const DELETE: Visit = Visit {
 
 const DELETES: Visit = Visit {
     clients: 4,
-    proxies: 2,
+    hubs: 2,
     request: "delete a\r\n",
     reply: "NOT_FOUND\r\n",
     pending: 1,
@@ -203,14 +203,14 @@ const DELETES: Visit = Visit {
 
 const VERSION: Visit = Visit {
     clients: 1,
-    proxies: 1,
+    hubs: 1,
     request: "version\r\n",
     reply: "VERSION mcv 1\r\n",
     pending: 5,
     calls: 0,
 };
 
-/// Whether deletes to a server that isn't there are in the spool, also for the next proxies.
+/// Whether deletes to a server that isn't there are in the spool, also for the next proxy.
 fn spools<R>(rt: R, alloc: Global, spool: &str) -> bool
 where
     R: Net<Stream = TcpStream, Listener = TcpListener>

@@ -83,6 +83,15 @@ pub trait Watch: Drop {
     fn note_unserved(&mut self) {}
 }
 
+// A moment that was told.
+impl Watch for Moment {
+    fn moment(&mut self) -> Moment {
+        *self
+    }
+
+    fn pause(&mut self) {}
+}
+
 /// What a proxy talks to: servers, a disk, clients and the clock.
 pub trait Gates: Drop {
     /// A leg that a link began.
@@ -98,7 +107,7 @@ pub trait Gates: Drop {
 
     type Watch: Watch + Send + 'static;
 
-    /// How many hubs there are, to which clients are dealt out one after another; where this is 0 there is one.
+    /// How many hubs there are, each with the keys of its number: 1 to 8; where this is less or more, the next one of these.
     fn hubs(&self) -> usize {
         1
     }

@@ -183,6 +183,7 @@ fn report<B: HubLedger, T: Ledger, R: Wait>(
     let hub = agenda.hub();
     let mut guard = hub.lock(rt, pass);
     let _ = settle(agenda, &mut guard, leg, outcome);
+    agenda.turn_where_due(&mut guard);
     fault
 }
 
@@ -211,7 +212,7 @@ fn write_record<B: HubLedger, T: Ledger, D: Disk, R: Wait>(
     let HeldLeg { leg, delete } = held;
     let outcome = spool.lock(rt).append(delete);
     let fault = report(rt, agenda, pass, leg, outcome);
-    agenda.ring_all();
+    agenda.finish();
     let Some(fault) = fault else {
         return false;
     };
