@@ -16,7 +16,7 @@ use mcv_base::{Moment, Part, Request};
 use mcv_core::CoreFault;
 use mcv_hub::{Receipt, TakenReply};
 use mcv_hubs::{HubCall, HubChoice, HubNames, Names, Seats};
-use mcv_proxy::{Link, Watch, fault_for, into_parts, key_count};
+use mcv_proxy::{Link, Outlook, Watch, fault_for, into_parts, key_count, shortage_of};
 use mcv_session::{Desk, DeskFault};
 use mcv_spool::Disk;
 use std::alloc::{AllocError, Global};
@@ -92,6 +92,28 @@ impl<'a, F: HubNames, G: Names, L: Link, W: Watch, R: Wait + Clock> HubsDesk<'a,
         desks.into_parts(mixed)
     }
 
+    /// Notes what a request has shown of the hub of this number.
+    fn note_at(&mut self, hub: usize)
+        requires { hub < 8 }
+    {
+        let Outlook {
+            chapter,
+            load,
+            shortage,
+        } = self.desks.outlook_at(hub);
+        self.watch.note_load(hub, chapter, load);
+        if let Some(shortage) = shortage {
+            self.watch.note_full(shortage);
+        }
+    }
+
+    /// Notes what had no place for a call that was refused so, if anything.
+    fn note_refused(&mut self, fault: CoreFault) {
+        if let Some(shortage) = shortage_of(fault) {
+            self.watch.note_full(shortage);
+        }
+    }
+
     /// A reply for each key of a request, in the order of the keys; all calls are begun before the first reply is waited for.
     /// Their receipts are kept. It waits at all its hubs before it begins a call, so that a chapter which is due can end while
     /// such requests come.
@@ -142,7 +164,26 @@ impl<'a, F: HubNames, G: Names, L: Link, W: Watch, R: Wait + Clock> HubsDesk<'a,
                 let Room { taken, parts, .. } = room;
                 Ok(into_parts(taken, parts))
             }
-            Err(fault) => Err(fault_for(fault)),
+            Err(fault) => {
+                self.note_refused(fault);
+                Err(fault_for(fault))
+            }
+        }
+    }
+
+    /// Answers a request at this moment, and notes what it has shown of its hub.
+    fn answer(&mut self, moment: Moment, request: &Arc<Request>) -> Result<Vec<Part>, DeskFault>
+        ensures asks { AsksHubs F.opened_of self.old.choice.now (request_value (arc_value request.now)) (answer_value result) }
+        ensures each { HasOneEach (request_value (arc_value request.now)) (answer_value result) }
+    {
+        let words: &Request = request;
+        match one_hub(self.choice, words) {
+            Some(hub) => {
+                let answer = self.desks.ask_at(hub, moment, request);
+                self.note_at(hub);
+                answer
+            }
+            None => self.ask_each(moment, words),
         }
     }
 }
@@ -155,10 +196,9 @@ impl<'a, F: HubNames, G: Names, L: Link, W: Watch, R: Wait + Clock> Desk
 
     fn ask(&mut self, request: &Arc<Request>) -> Result<Vec<Part>, DeskFault> {
         let moment = self.watch.moment();
+        let answer = self.answer(moment, request);
         let words: &Request = request;
-        match one_hub(self.choice, words) {
-            Some(hub) => self.desks.ask_at(hub, moment, request),
-            None => self.ask_each(moment, words),
-        }
+        self.watch.note_answer(words, &answer);
+        answer
     }
 }

@@ -15,7 +15,7 @@ use mcv_base::{CallId, Moment, Part, Request, key_words_have_one_reading};
 use mcv_core::CoreFault;
 use mcv_hub::{Hub, HubLedger, Pass, Receipt, Seat, TakenReply};
 use mcv_hubs::{At, HubCall, HubChoice, HubNames, MOST_HUBS, Names, Seats};
-use mcv_proxy::{HubDesk, Link, key_count};
+use mcv_proxy::{HubDesk, Link, Outlook, key_count};
 use mcv_session::DeskFault;
 use mcv_spool::Disk;
 use std::alloc::{AllocError, Global};
@@ -190,6 +190,22 @@ impl<'a, F: HubNames, G: Names, L: Link, R: Wait + Clock> HubDesks<'a, F, G, L, 
             5 => self.desk5.ask_then(moment, request),
             6 => self.desk6.ask_then(moment, request),
             _ => self.desk7.ask_then(moment, request),
+        }
+    }
+
+    /// What this session's requests have shown of the hub of this number.
+    pub(crate) fn outlook_at(&self, hub: usize) -> Outlook
+        requires { hub < 8 }
+    {
+        match hub {
+            0 => self.desk0.outlook(),
+            1 => self.desk1.outlook(),
+            2 => self.desk2.outlook(),
+            3 => self.desk3.outlook(),
+            4 => self.desk4.outlook(),
+            5 => self.desk5.outlook(),
+            6 => self.desk6.outlook(),
+            _ => self.desk7.outlook(),
         }
     }
 

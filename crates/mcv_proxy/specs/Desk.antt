@@ -17,6 +17,8 @@ use Rattle.mcv_hub.specs.declared.receipts.Receipt.{Receipt}
 use Rattle.mcv_hub.specs.declared.seat.TakenReply.{TakenReply}
 use Rattle.mcv_route.specs.Places.{route_of_prefix}
 use Rattle.mcv_route.specs.Routes.{RoutesValue}
+use Rattle.mcv_proxy.specs.declared.gates.Shortage.{Shortage}
+use Rattle.mcv_proxy.specs.declared.gates.Shortage.TheVariants.{Legs, Chapter}
 use Rattle.mcv_session.specs.Desk.{keys_of}
 use Rattle.mcv_session.specs.declared.desk.DeskFault.{DeskFault}
 use Rattle.mcv_session.specs.declared.desk.DeskFault.TheVariants as answers
@@ -197,6 +199,12 @@ desk_fault Busy = answers.Busy
 desk_fault ClockBack = answers.Busy
 desk_fault Memory = answers.Memory
 desk_fault NoSuchCall = answers.Busy
+
+-- what has no place for a call that is refused for this cause
+abbrev pub shortage_of : CoreFault → Option Shortage
+shortage_of LegsFull = Some Legs
+shortage_of ChapterFull = Some Chapter
+shortage_of _ = None
 
 pub record IsFaultOf (opened : CoreView) (request : RequestValue) (calls : List CallId) (taken : List TakenReply) (fault : DeskFault) : Type 0 where
   pub cause : CoreFault

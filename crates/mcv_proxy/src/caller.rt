@@ -4,12 +4,14 @@ ghost use Rattle.std.specs.Prelude.{◌≡◌, ◌+◌, ◌≤◌, [], length, m
 ghost use Rattle.std.specs.Arc.{arc_value};
 ghost use Rattle.std.specs.List.{All};
 ghost use Rattle.mcv_text.specs.Request.{request_value};
+ghost use Rattle.mcv_core.specs.View.{core_view};
+ghost use Rattle.mcv_hub.specs.Weights.{bytes_of};
 ghost use Rattle.mcv_proxy.specs.Desk.{AreBegun, AreTaken, HasMissing, WasBegun, WasMissing, WasRefused, WasTaken};
 
 use crate::agenda::Agenda;
 use crate::errands::Errands;
 use crate::events;
-use crate::gates::{Link, Watch};
+use crate::gates::{Link, Load, Watch};
 use crate::lanes::{Lanes, Links};
 use mcv_base::{CallId, Moment, Request};
 use mcv_core::CoreFault;
@@ -34,6 +36,8 @@ pub(crate) struct Caller<'a, B: HubLedger, T: Ledger, L: Link, W: Watch, R: Wait
     pub(crate) pass: Pass,
     pub(crate) seat: Seat<B, T>,
     pub(crate) watch: W,
+    /// How full the chapter was once the calls of the last request were begun.
+    pub(crate) load: Load,
     pub(crate) errands: Errands<'a, B, T, L>,
 }
 
@@ -43,6 +47,17 @@ struct Progress {
     /// How many calls are done with: their replies were taken, or won't come.
     done: usize,
     missed: Option<CoreFault>,
+}
+
+/// How full a hub's chapter is.
+fn load_of<B: HubLedger, T: Ledger>(guard: &Guard<'_, B, T>) -> Load
+    ensures entries { result.entries ≡ (core_view guard.now.core).entries }
+    ensures bytes { result.bytes ≡ bytes_of guard.now.history }
+{
+    Load {
+        entries: guard.core().entries() as u64,
+        bytes: guard.bytes(),
+    }
 }
 
 /// Waits until calls may begin, where the next chapter is due; not for ever, so that they begin in the old one where that takes
@@ -248,6 +263,7 @@ impl<'a, B: HubLedger, T: Ledger, L: Link, W: Watch, R: Wait + Clock> Caller<'a,
         let (mut guard, begun) = begin_each(
             rt, alloc, hub, guard, seat, agenda, request, count, calls,
         );
+        self.load = load_of(&guard);
         self.errands
             .set_off(rt, alloc, lanes, &mut guard, calls.as_slice(), None);
         begun
@@ -283,6 +299,7 @@ impl<'a, B: HubLedger, T: Ledger, L: Link, W: Watch, R: Wait + Clock> Caller<'a,
         let seat = &mut self.seat;
         let agenda = &mut self.errands.agenda;
         let begun = events::begin_in_turn(alloc, agenda, &mut guard, seat, request, key);
+        self.load = load_of(&guard);
         self.errands.agenda.leave(guard.core());
         drop(guard);
         self.errands.agenda.finish();

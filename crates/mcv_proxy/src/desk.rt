@@ -5,11 +5,11 @@ ghost use Rattle.std.specs.Arc.{arc_value};
 ghost use Rattle.std.specs.List.{All};
 ghost use Rattle.mcv_text.specs.Request.{request_value};
 ghost use Rattle.mcv_session.specs.Desk.{keys_of};
-ghost use Rattle.mcv_proxy.specs.Desk.{AreBegun, AreFor, Asks, HasOtherReply, IsOnlyReplyFor, IsReplyFor, IsUnanswered, IsUntaken, WasAsked, WasBegun, WasRefused, WasTaken, desk_fault, with_receipt};
+ghost use Rattle.mcv_proxy.specs.Desk.{AreBegun, AreFor, Asks, HasOtherReply, IsOnlyReplyFor, IsReplyFor, IsUnanswered, IsUntaken, WasAsked, WasBegun, WasRefused, WasTaken, desk_fault, shortage_of, with_receipt};
 
 use crate::caller::Caller;
 use crate::errands::Errands;
-use crate::gates::{Link, Watch};
+use crate::gates::{Link, Load, Shortage, Watch};
 use crate::hub_routes::HubRoutes;
 use crate::kept::Kept;
 use crate::keys::{are_for, is_for, key_count};
@@ -24,11 +24,24 @@ use std::rt::Clock;
 use std::sync::ledger::Ledger;
 use std::sync::{Arc, Wait};
 
+/// What a session's requests have shown of a hub.
+#[derive(Clone, Copy, Debug, PartialEq, Eq)]
+pub struct Outlook {
+    /// The number of the chapter of the last reply.
+    pub chapter: u64,
+    /// How full the chapter was once the calls of the last request were begun.
+    pub load: Load,
+    /// What had no place for these.
+    pub shortage: Option<Shortage>,
+}
+
 /// Answers the requests of one session by calls of a hub, one for each key.
 #[derive(Drop)]
 pub struct HubDesk<'a, B: HubLedger, T: Ledger, L: Link, W: Watch, R: Wait + Clock> {
     caller: Caller<'a, B, T, L, W, R>,
     kept: Kept,
+    /// What had no place for the calls of the last request.
+    shortage: Option<Shortage>,
     routes: HubRoutes<'a, B>,
 }
 
@@ -73,6 +86,17 @@ pub fn fault_for(fault: CoreFault) -> DeskFault
         | CoreFault::Busy
         | CoreFault::ClockBack
         | CoreFault::NoSuchCall => DeskFault::Busy,
+    }
+}
+
+/// What has no place for a call that the core refuses so.
+pub fn shortage_of(fault: CoreFault) -> Option<Shortage>
+    ensures { result ≡ shortage_of fault }
+{
+    match fault {
+        CoreFault::LegsFull => Some(Shortage::Legs),
+        CoreFault::ChapterFull => Some(Shortage::Chapter),
+        _ => None,
     }
 }
 
@@ -137,9 +161,11 @@ impl<'a, B: HubLedger, T: Ledger, L: Link, W: Watch, R: Wait + Clock> HubDesk<'a
                 pass,
                 seat,
                 watch,
+                load: Load::default(),
                 errands: Errands::new(alloc, hub),
             },
             kept: Kept::new(alloc),
+            shortage: None,
             routes: HubRoutes::of(hub),
         }
     }
@@ -208,6 +234,7 @@ impl<'a, B: HubLedger, T: Ledger, L: Link, W: Watch, R: Wait + Clock> Desk
     ghost asks = { λ old request answer new. Asks B.opened (record { receipts = old.kept.receipts.items; begun = old.caller.seat.begun.amount; taken = old.caller.seat.taken.amount }) request answer (record { receipts = new.kept.receipts.items; begun = new.caller.seat.begun.amount; taken = new.caller.seat.taken.amount }) };
 
     fn ask(&mut self, request: &Arc<Request>) -> Result<Vec<Part>, DeskFault> {
+        self.shortage = None;
         let Ok(room) = self.room_for(key_count(request)) else {
             return Err(DeskFault::Memory);
         };
@@ -218,7 +245,10 @@ impl<'a, B: HubLedger, T: Ledger, L: Link, W: Watch, R: Wait + Clock> Desk
         } = room;
         match self.take_replies(request, &mut calls, &mut taken) {
             Ok(()) => Ok(into_parts(taken, parts)),
-            Err(fault) => Err(fault_for(fault)),
+            Err(fault) => {
+                self.shortage = shortage_of(fault);
+                Err(fault_for(fault))
+            }
         }
     }
 }
@@ -237,6 +267,19 @@ impl<'a, B: HubLedger, T: Ledger, L: Link, R: Wait + Clock> HubDesk<'a, B, T, L,
     {
         self.caller.watch = moment;
         self.ask(request)
+    }
+
+    /// What the requests up to now have shown of the hub.
+    pub fn outlook(&self) -> Outlook
+        ensures chapter { result.chapter ≡ self.now.kept.chapter }
+        ensures load { result.load ≡ self.now.caller.load }
+        ensures shortage { result.shortage ≡ self.now.shortage }
+    {
+        Outlook {
+            chapter: self.kept.chapter(),
+            load: self.caller.load,
+            shortage: self.shortage,
+        }
     }
 
     /// Waits until calls may begin, where the hub's next chapter is due (`Hub::enter`): before those of `begin_for`, which don't wait

@@ -40,6 +40,13 @@ impl Kept {
         }
     }
 
+    /// The chapter of the reply that was kept last; 0 before the first.
+    pub(crate) fn chapter(&self) -> u64
+        ensures { result ≡ self.now.chapter }
+    {
+        self.chapter
+    }
+
     /// Makes room for so many more.
     pub(crate) fn reserve(&mut self, count: usize) -> Result<(), AllocError>
         ensures same { self.new.receipts.items ≡ self.old.receipts.items }

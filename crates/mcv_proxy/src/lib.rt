@@ -26,11 +26,11 @@ mod replay;
 mod seen;
 mod spooling;
 
-pub use crate::desk::{HubDesk, fault_for, into_parts};
+pub use crate::desk::{HubDesk, Outlook, fault_for, into_parts, shortage_of};
 pub use crate::destination::serve_destination;
 pub use crate::ends::Ends;
 pub use crate::fault::ProxyFault;
-pub use crate::gates::{Gates, Link, LinkFault, Watch};
+pub use crate::gates::{Gates, Link, LinkFault, Load, Shortage, Watch};
 pub use crate::keys::key_count;
 pub use crate::lanes::{Lanes, Links};
 pub use crate::replay::serve_replay;

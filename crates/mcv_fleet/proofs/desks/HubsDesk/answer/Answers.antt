@@ -4,7 +4,7 @@ use Rattle.mcv_session.specs.Desk.{HasOneEach, answer_value}
 use Rattle.mcv_text.specs.Request.{request_value}
 use Rattle.mcv_fleet.specs.Desks.{AsksHubs, HaveHub}
 use Rattle.mcv_fleet.proofs.KeysOfHubs.{asked_one_hub}
-use Rattle.mcv_fleet.proofs.desks.HubsDeskDesk.ask.Goals as goal
+use Rattle.mcv_fleet.proofs.desks.HubsDesk.answer.Goals as goal
 
 pub returns-in-Some-clause-asks : goal.returns-in-Some-clause-asks
 returns-in-Some-clause-asks g c =
