@@ -1,13 +1,14 @@
 //! The desk over all hubs: each key is asked at its hub.
 
-ghost use Rattle.std.specs.Prelude.{◌≡◌, IfErr, IfOk, OnOk, length, vec_capacity, vec_len};
+ghost use Rattle.std.specs.Prelude.{◌≡◌, ◌<◌, IfErr, IfOk, OnOk, length, vec_capacity, vec_len};
+ghost use Rattle.std.specs.Arc.{arc_value};
 ghost use Rattle.mcv_fleet.specs.Desks.{AreForKeys, AsksHubs, IsKeyRefused};
 ghost use Rattle.mcv_fleet.specs.Room.{IsRoomFor};
 ghost use Rattle.mcv_session.specs.Desk.{HasOneEach, answer_value, keys_of};
 ghost use Rattle.mcv_text.specs.Request.{request_value};
 
 use crate::choice::one_hub;
-use crate::hub_desks::HubDesks;
+use crate::hub_desks::{HubDesks, mark};
 use crate::one_key::requests_of_keys;
 use crate::passes::SessionPasses;
 use crate::posts::Shared;
@@ -15,7 +16,7 @@ use crate::receipts::Receipts;
 use mcv_base::{Moment, Part, Request};
 use mcv_core::CoreFault;
 use mcv_hub::{Receipt, TakenReply};
-use mcv_hubs::{HubCall, HubChoice, HubNames, Names, Seats};
+use mcv_hubs::{HubCall, HubChoice, HubNames, MOST_HUBS, Names, Seats};
 use mcv_proxy::{Link, Outlook, Watch, fault_for, into_parts, key_count, shortage_of};
 use mcv_session::{Desk, DeskFault};
 use mcv_spool::Disk;
@@ -92,18 +93,33 @@ impl<'a, F: HubNames, G: Names, L: Link, W: Watch, R: Wait + Clock> HubsDesk<'a,
         desks.into_parts(mixed)
     }
 
-    /// Notes what a request has shown of the hub of this number.
+    /// Notes how full the chapter of the hub of this number was at the last request.
+    fn note_load_at(&mut self, hub: usize)
+        requires { hub < 8 }
+    {
+        let Outlook { chapter, load, .. } = self.desks.outlook_at(hub);
+        self.watch.note_load(hub, chapter, load);
+    }
+
+    /// Notes what a request that this hub alone was asked has shown of it.
     fn note_at(&mut self, hub: usize)
         requires { hub < 8 }
     {
-        let Outlook {
-            chapter,
-            load,
-            shortage,
-        } = self.desks.outlook_at(hub);
-        self.watch.note_load(hub, chapter, load);
-        if let Some(shortage) = shortage {
+        self.note_load_at(hub);
+        if let Some(shortage) = self.desks.outlook_at(hub).shortage {
             self.watch.note_full(shortage);
+        }
+    }
+
+    /// Notes how full the chapters of the hubs of all keys of a request were, each of which was asked.
+    fn note_each(&mut self, request: &Request) {
+        let choice = self.choice;
+        let mut marks = [false; MOST_HUBS];
+        for key in 0..key_count(request) {
+            let hub = choice.hub_of_key(request, key);
+            if mark(&mut marks, hub) {
+                self.note_load_at(hub);
+            }
         }
     }
 
@@ -161,6 +177,7 @@ impl<'a, F: HubNames, G: Names, L: Link, W: Watch, R: Wait + Clock> HubsDesk<'a,
         };
         match self.take_replies(moment, request, &mut room) {
             Ok(()) => {
+                self.note_each(request);
                 let Room { taken, parts, .. } = room;
                 Ok(into_parts(taken, parts))
             }
@@ -171,7 +188,7 @@ impl<'a, F: HubNames, G: Names, L: Link, W: Watch, R: Wait + Clock> HubsDesk<'a,
         }
     }
 
-    /// Answers a request at this moment, and notes what it has shown of its hub.
+    /// Answers a request at this moment, and notes what it has shown of its hubs.
     fn answer(&mut self, moment: Moment, request: &Arc<Request>) -> Result<Vec<Part>, DeskFault>
         ensures asks { AsksHubs F.opened_of self.old.choice.now (request_value (arc_value request.now)) (answer_value result) }
         ensures each { HasOneEach (request_value (arc_value request.now)) (answer_value result) }

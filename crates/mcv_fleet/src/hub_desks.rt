@@ -65,7 +65,7 @@ fn with_more(
 }
 
 /// Marks a hub: whether it is there and had no mark.
-fn mark(marks: &mut [bool], hub: usize) -> bool {
+pub(crate) fn mark(marks: &mut [bool], hub: usize) -> bool {
     match marks.get_mut(hub) {
         Some(is_marked) => !mem::replace(is_marked, true),
         None => false,

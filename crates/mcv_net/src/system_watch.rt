@@ -90,7 +90,7 @@ impl<R: Clock + Drop, N: Notices> Watch for SystemWatch<R, N> {
         if let Some(hub) = tally.hub(hub) {
             hub.entries.set(load.entries);
             hub.bytes.set(load.bytes);
-            hub.turned.set(chapter);
+            hub.turned.raise(chapter);
         }
     }
 

@@ -46,7 +46,12 @@ impl Level {
         self.number.store(number, Ordering::SeqCst);
     }
 
-    /// What it was set to last.
+    /// It is this from now on, unless it is more.
+    pub fn raise(&self, number: u64) {
+        let _before = self.number.fetch_max(number, Ordering::SeqCst);
+    }
+
+    /// What it is now.
     pub fn now(&self) -> u64 {
         self.number.load(Ordering::SeqCst)
     }
