@@ -40,6 +40,9 @@ mcv_records_spooled_total 12
 # HELP mcv_records_pending Deletes in the spool that their servers haven't performed.
 # TYPE mcv_records_pending gauge
 mcv_records_pending 4
+# HELP mcv_spool_slots Slots of the spool's file that are used, of 1000000.
+# TYPE mcv_spool_slots gauge
+mcv_spool_slots 15
 # HELP mcv_spool_refusing Hubs whose records the spool refuses.
 # TYPE mcv_spool_refusing gauge
 mcv_spool_refusing 3
@@ -140,6 +143,7 @@ fn counts(alloc: Global) -> Result<Snapshot, Fail> {
         spool: SpoolCounts {
             spooled: 12,
             pending: 4,
+            slots: 15,
             refusing: 3,
         },
         hubs: hubs(alloc)?,

@@ -5,7 +5,7 @@ use Rattle.mcv_metrics.specs.declared.metric.WordMetric.TheVariants.{Calls, Repl
 use Rattle.mcv_metrics.specs.declared.metric.ServerMetric.{ServerMetric}
 use Rattle.mcv_metrics.specs.declared.metric.ServerMetric.TheVariants.{Sent, Lost, Marked, Replayed}
 use Rattle.mcv_metrics.specs.declared.metric.SpoolMetric.{SpoolMetric}
-use Rattle.mcv_metrics.specs.declared.metric.SpoolMetric.TheVariants.{Spooled, Pending, Refusing}
+use Rattle.mcv_metrics.specs.declared.metric.SpoolMetric.TheVariants.{Spooled, Pending, Slots, Refusing}
 use Rattle.mcv_metrics.specs.declared.metric.HubMetric.{HubMetric}
 use Rattle.mcv_metrics.specs.declared.metric.HubMetric.TheVariants.{Entries, Bytes, Turned}
 use Rattle.mcv_metrics.specs.declared.metric.ClientMetric.{ClientMetric}
@@ -31,6 +31,7 @@ server_count counts Replayed = counts.replayed
 abbrev pub spool_count : SpoolCounts → SpoolMetric → ℕ
 spool_count counts Spooled = counts.spooled
 spool_count counts Pending = counts.pending
+spool_count counts Slots = counts.slots
 spool_count counts Refusing = counts.refusing
 
 abbrev pub hub_count : HubCounts → HubMetric → ℕ

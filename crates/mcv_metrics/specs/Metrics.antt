@@ -8,7 +8,7 @@ use Rattle.mcv_metrics.specs.declared.metric.Metric.TheVariants.{Words, Servers,
 use Rattle.mcv_metrics.specs.declared.metric.WordMetric.{WordMetric}
 use Rattle.mcv_metrics.specs.declared.metric.WordMetric.TheVariants.{Calls, Replies, Refusals}
 use Rattle.mcv_metrics.specs.declared.metric.ServerMetric.TheVariants.{Sent, Lost, Marked, Replayed}
-use Rattle.mcv_metrics.specs.declared.metric.SpoolMetric.TheVariants.{Spooled, Pending, Refusing}
+use Rattle.mcv_metrics.specs.declared.metric.SpoolMetric.TheVariants.{Spooled, Pending, Slots, Refusing}
 use Rattle.mcv_metrics.specs.declared.metric.HubMetric.TheVariants.{Entries, Bytes, Turned}
 use Rattle.mcv_metrics.specs.declared.metric.ClientMetric.TheVariants.{Connected, Accepted, Refused}
 
@@ -17,7 +17,7 @@ abbrev pub metrics : List Metric
 metrics =
     Words Calls ∷ Words Replies ∷ Words Refusals
     ∷ Servers Sent ∷ Servers Lost ∷ Servers Marked ∷ Servers Replayed
-    ∷ Spool Spooled ∷ Spool Pending ∷ Spool Refusing
+    ∷ Spool Spooled ∷ Spool Pending ∷ Spool Slots ∷ Spool Refusing
     ∷ Hubs Entries ∷ Hubs Bytes ∷ Hubs Turned
     ∷ Clients Connected ∷ Clients Accepted ∷ Clients Refused
     ∷ Uptime ∷ Build ∷ []
@@ -32,6 +32,7 @@ metric_name (Servers Marked) = codes "mcv_server_marked"
 metric_name (Servers Replayed) = codes "mcv_records_replayed_total"
 metric_name (Spool Spooled) = codes "mcv_records_spooled_total"
 metric_name (Spool Pending) = codes "mcv_records_pending"
+metric_name (Spool Slots) = codes "mcv_spool_slots"
 metric_name (Spool Refusing) = codes "mcv_spool_refusing"
 metric_name (Hubs Entries) = codes "mcv_chapter_entries"
 metric_name (Hubs Bytes) = codes "mcv_chapter_bytes"
@@ -52,6 +53,7 @@ metric_help (Servers Marked) = codes "Hubs that have marked the server as down, 
 metric_help (Servers Replayed) = codes "Deletes of the spool that the server has performed, by server."
 metric_help (Spool Spooled) = codes "Deletes that were written into the spool."
 metric_help (Spool Pending) = codes "Deletes in the spool that their servers haven't performed."
+metric_help (Spool Slots) = codes "Slots of the spool's file that are used, of 1000000."
 metric_help (Spool Refusing) = codes "Hubs whose records the spool refuses."
 metric_help (Hubs Entries) = codes "Entries that the chapter has or may get, by hub."
 metric_help (Hubs Bytes) = codes "Bytes that the chapter holds, by hub."
@@ -73,6 +75,7 @@ metric_kind (Servers Marked) = Gauge
 metric_kind (Servers Replayed) = Counter
 metric_kind (Spool Spooled) = Counter
 metric_kind (Spool Pending) = Gauge
+metric_kind (Spool Slots) = Gauge
 metric_kind (Spool Refusing) = Gauge
 metric_kind (Hubs Entries) = Gauge
 metric_kind (Hubs Bytes) = Gauge

@@ -60,6 +60,7 @@ pub enum ServerMetric {
 pub enum SpoolMetric {
     Spooled,
     Pending,
+    Slots,
     Refusing,
 }
 
@@ -106,6 +107,7 @@ impl Metric {
             Metric::Servers(ServerMetric::Replayed) => "mcv_records_replayed_total",
             Metric::Spool(SpoolMetric::Spooled) => "mcv_records_spooled_total",
             Metric::Spool(SpoolMetric::Pending) => "mcv_records_pending",
+            Metric::Spool(SpoolMetric::Slots) => "mcv_spool_slots",
             Metric::Spool(SpoolMetric::Refusing) => "mcv_spool_refusing",
             Metric::Hubs(HubMetric::Entries) => "mcv_chapter_entries",
             Metric::Hubs(HubMetric::Bytes) => "mcv_chapter_bytes",
@@ -137,6 +139,9 @@ impl Metric {
             Metric::Spool(SpoolMetric::Spooled) => "Deletes that were written into the spool.",
             Metric::Spool(SpoolMetric::Pending) => {
                 "Deletes in the spool that their servers haven't performed."
+            }
+            Metric::Spool(SpoolMetric::Slots) => {
+                "Slots of the spool's file that are used, of 1000000."
             }
             Metric::Spool(SpoolMetric::Refusing) => "Hubs whose records the spool refuses.",
             Metric::Hubs(HubMetric::Entries) => "Entries that the chapter has or may get, by hub.",

@@ -72,6 +72,8 @@ pub struct SpoolCounts {
     pub spooled: u64,
     /// Those in it that their servers haven't performed.
     pub pending: u64,
+    /// The slots of its file that are used, those of deletes that were performed too.
+    pub slots: u64,
     /// How many hubs have their records refused by it now.
     pub refusing: u64,
 }
@@ -84,6 +86,7 @@ impl SpoolCounts {
         match metric {
             SpoolMetric::Spooled => self.spooled,
             SpoolMetric::Pending => self.pending,
+            SpoolMetric::Slots => self.slots,
             SpoolMetric::Refusing => self.refusing,
         }
     }

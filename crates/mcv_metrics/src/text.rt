@@ -15,7 +15,7 @@ use std::alloc::{AllocError, Global};
 pub const CONTENT_TYPE: &str = "text/plain; version=0.0.4; charset=utf-8";
 
 /// All families, in the order of the text.
-const METRICS: [Metric; 18] = [
+const METRICS: [Metric; 19] = [
     Metric::Words(WordMetric::Calls),
     Metric::Words(WordMetric::Replies),
     Metric::Words(WordMetric::Refusals),
@@ -25,6 +25,7 @@ const METRICS: [Metric; 18] = [
     Metric::Servers(ServerMetric::Replayed),
     Metric::Spool(SpoolMetric::Spooled),
     Metric::Spool(SpoolMetric::Pending),
+    Metric::Spool(SpoolMetric::Slots),
     Metric::Spool(SpoolMetric::Refusing),
     Metric::Hubs(HubMetric::Entries),
     Metric::Hubs(HubMetric::Bytes),

@@ -110,6 +110,7 @@ impl State {
         SpoolCounts {
             spooled,
             pending: written.saturating_sub(replayed),
+            slots: self.tally.spool.slots.now(),
             refusing: self.refusing.load(Ordering::SeqCst),
         }
     }

@@ -108,4 +108,10 @@ impl<R: Clock + Drop, N: Notices> Watch for SystemWatch<R, N> {
             tally.spool.spooled.more();
         }
     }
+
+    fn note_slots(&mut self, slots: usize) {
+        if let Some(tally) = &self.counters.tally {
+            tally.spool.slots.raise(slots as u64);
+        }
+    }
 }

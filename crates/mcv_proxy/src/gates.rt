@@ -104,6 +104,9 @@ pub trait Watch: Drop {
     /// Notes that a delete was written into the spool.
     fn note_spooled(&mut self) {}
 
+    /// Notes how many slots the spool has, with those of records that are done.
+    fn note_slots(&mut self, _slots: usize) {}
+
     /// Notes what a request was answered.
     fn note_answer(&mut self, _request: &Request, _answer: &Result<Vec<Part>, DeskFault>) {}
 

@@ -219,6 +219,12 @@ fn write_record<B: HubLedger, T: Ledger, D: Disk, R: Wait>(
     fault
 }
 
+/// How many slots the spool has.
+fn slots_of<D: Disk, R: Wait>(rt: &R, spool: &Mutex<Spool<D>>) -> usize {
+    let spool = spool.lock(rt);
+    spool.pending().len()
+}
+
 /// When a spool that has refused a record just now is asked again; None, at once, where the clock can't be read.
 fn asked_again<W: Watch, R: Clock>(rt: &R, watch: &W) -> Option<Instant> {
     Instant::now(rt).ok()?.checked_add(watch.respite())
@@ -241,11 +247,13 @@ pub fn serve_spool<B: HubLedger, T: Ledger, D: Disk, W: Watch, R: Wait + Clock>(
     let mut agenda = Agenda::new(alloc, hub);
     let mut refuses = false;
     let mut until = None;
+    watch.note_slots(slots_of(rt, spool));
     for _turn in rt.forever() {
         match next_task(rt, texts, &mut agenda, pass, until, ends) {
             Task::Write(held) => {
                 let fault = write_record(rt, &mut agenda, pass, spool, held);
                 note(watch, &mut refuses, fault);
+                watch.note_slots(slots_of(rt, spool));
                 if fault.is_some() && ends.are_asked() {
                     return;
                 }

@@ -39,6 +39,8 @@ pub struct SpoolTally {
     pub before: Level,
     /// Deletes that were written into it since.
     pub spooled: Count,
+    /// The slots that its file has.
+    pub slots: Level,
 }
 
 /// What is known of a hub.
@@ -121,6 +123,7 @@ impl SpoolTally {
         SpoolTally {
             before: Level::new(),
             spooled: Count::new(),
+            slots: Level::new(),
         }
     }
 }

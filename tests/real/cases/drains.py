@@ -170,6 +170,20 @@ def what_isnt_sent_in_time_goes_to_the_spool(machine):
 
 
 @case()
+def a_drain_ends_where_the_spool_refuses(machine):
+    """What the spool refused was answered by an error, and goes with the process."""
+    admin, spool = admin_address(), machine.path("mcv.spool")
+    mcv = machine.mcv(one_pool(["127.0.0.1:%d" % free_port()]), before=LIMITED, spool=spool, admin=admin)
+    with mcv.client() as client:
+        for key in [b"a", b"b"]:
+            client.ask(b"delete " + key + b"\r\n", b"NOT_FOUND\r\n")
+        client.ask(b"delete c\r\n", FAILED)
+    expect(asked(admin, "POST", "/drain?seconds=1"), (200, b"draining\n"))
+    expect(mcv.last_lines(), (b"mcv closed calls 3\n", 0))
+    expect([rest for _, rest in pending(spool)], [b"a", b"b"])
+
+
+@case()
 def a_leg_under_way_keeps_its_own_time(machine):
     """It was begun before the drain, and its server never answers: what ends it puts its delete into the spool."""
     admin, spool = admin_address(), machine.path("mcv.spool")

@@ -132,8 +132,10 @@ def records_are_counted_until_they_are_performed(machine):
         return tuple(every[name] for name in names)
 
     expect(records(), (1, 0, 0))
+    wait_for(lambda: shown(admin)["mcv_spool_slots"] == 1, "a slot is used")
     machine.memcached(port=port)
     wait_for(lambda: records() == (0, 0, 1), "the delete is performed")
+    expect(shown(admin)["mcv_spool_slots"], 1, "slots of records that are done are used")
 
 
 @case()
@@ -148,6 +150,11 @@ def the_chapters_of_hubs_are_shown(machine):
             client.ask(b"get k%d\r\n" % n, b"END\r\n")
     expect(set(sums(admin, "mcv_chapter_entries", "hub")), hubs, "hubs that were asked")
     expect(set(sums(admin, "mcv_chapter_bytes", "hub")), hubs, "hubs that were asked")
+    before = sums(admin, "mcv_chapter_entries", "hub")
+    with mcv.client() as client:
+        client.ask(b"get " + b" ".join(b"k%d" % n for n in range(100)) + b"\r\n", b"END\r\n")
+    after = sums(admin, "mcv_chapter_entries", "hub")
+    expect([hub for hub in hubs if after[hub] <= before[hub]], [], "hubs that one request has asked")
     expect(sums(admin, "mcv_chapters_turned_total", "hub"), {})
 
 
