@@ -1,7 +1,7 @@
 //! The text of a snapshot.
 
 ghost use Rattle.std.specs.List.{flat_map};
-ghost use Rattle.std.specs.Prelude.{◌≡◌, ◌++◌, OnOk, IfOk, codes, decimal};
+ghost use Rattle.std.specs.Prelude.{◌≡◌, ◌++◌, OnOk, IfOk, decimal};
 ghost use Rattle.mcv_metrics.specs.Metrics.{metric_name};
 ghost use Rattle.mcv_metrics.specs.Text.{family, hub_sample, labelled, metrics_text, samples, server_sample, word_sample};
 

@@ -11,8 +11,9 @@ ghost use Rattle.mcv_proxy.specs.Desk.{AreBegun, AreTaken, HasMissing, WasBegun,
 use crate::agenda::Agenda;
 use crate::errands::Errands;
 use crate::events;
-use crate::gates::{Link, Load, Watch};
+use crate::gates::{Link, Load, Shortage, Watch};
 use crate::lanes::{Lanes, Links};
+use crate::shortage::shortage_in;
 use mcv_base::{CallId, Moment, Request};
 use mcv_core::CoreFault;
 use mcv_hub::{Bell, Gate, Guard, Hub, HubLedger, Pass, Seat, TakenReply};
@@ -38,6 +39,8 @@ pub(crate) struct Caller<'a, B: HubLedger, T: Ledger, L: Link, W: Watch, R: Wait
     pub(crate) watch: W,
     /// How full the chapter was once the calls of the last request were begun.
     pub(crate) load: Load,
+    /// What had no place for one of these.
+    pub(crate) shortage: Option<Shortage>,
     pub(crate) errands: Errands<'a, B, T, L>,
 }
 
@@ -264,6 +267,7 @@ impl<'a, B: HubLedger, T: Ledger, L: Link, W: Watch, R: Wait + Clock> Caller<'a,
             rt, alloc, hub, guard, seat, agenda, request, count, calls,
         );
         self.load = load_of(&guard);
+        self.shortage = shortage_in(&begun);
         self.errands
             .set_off(rt, alloc, lanes, &mut guard, calls.as_slice(), None);
         begun
@@ -300,6 +304,7 @@ impl<'a, B: HubLedger, T: Ledger, L: Link, W: Watch, R: Wait + Clock> Caller<'a,
         let agenda = &mut self.errands.agenda;
         let begun = events::begin_in_turn(alloc, agenda, &mut guard, seat, request, key);
         self.load = load_of(&guard);
+        self.shortage = shortage_in(&begun);
         self.errands.agenda.leave(guard.core());
         drop(guard);
         self.errands.agenda.finish();

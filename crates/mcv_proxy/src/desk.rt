@@ -5,7 +5,7 @@ ghost use Rattle.std.specs.Arc.{arc_value};
 ghost use Rattle.std.specs.List.{All};
 ghost use Rattle.mcv_text.specs.Request.{request_value};
 ghost use Rattle.mcv_session.specs.Desk.{keys_of};
-ghost use Rattle.mcv_proxy.specs.Desk.{AreBegun, AreFor, Asks, HasOtherReply, IsOnlyReplyFor, IsReplyFor, IsUnanswered, IsUntaken, WasAsked, WasBegun, WasRefused, WasTaken, desk_fault, shortage_of, with_receipt};
+ghost use Rattle.mcv_proxy.specs.Desk.{AreBegun, AreFor, Asks, HasOtherReply, IsOnlyReplyFor, IsReplyFor, IsUnanswered, IsUntaken, WasAsked, WasBegun, WasRefused, WasTaken, desk_fault, with_receipt};
 
 use crate::caller::Caller;
 use crate::errands::Errands;
@@ -31,7 +31,7 @@ pub struct Outlook {
     pub chapter: u64,
     /// How full the chapter was once the calls of the last request were begun.
     pub load: Load,
-    /// What had no place for these.
+    /// What had no place for one of these.
     pub shortage: Option<Shortage>,
 }
 
@@ -40,8 +40,6 @@ pub struct Outlook {
 pub struct HubDesk<'a, B: HubLedger, T: Ledger, L: Link, W: Watch, R: Wait + Clock> {
     caller: Caller<'a, B, T, L, W, R>,
     kept: Kept,
-    /// What had no place for the calls of the last request.
-    shortage: Option<Shortage>,
     routes: HubRoutes<'a, B>,
 }
 
@@ -86,17 +84,6 @@ pub fn fault_for(fault: CoreFault) -> DeskFault
         | CoreFault::Busy
         | CoreFault::ClockBack
         | CoreFault::NoSuchCall => DeskFault::Busy,
-    }
-}
-
-/// What has no place for a call that the core refuses so.
-pub fn shortage_of(fault: CoreFault) -> Option<Shortage>
-    ensures { result ≡ shortage_of fault }
-{
-    match fault {
-        CoreFault::LegsFull => Some(Shortage::Legs),
-        CoreFault::ChapterFull => Some(Shortage::Chapter),
-        _ => None,
     }
 }
 
@@ -162,10 +149,10 @@ impl<'a, B: HubLedger, T: Ledger, L: Link, W: Watch, R: Wait + Clock> HubDesk<'a
                 seat,
                 watch,
                 load: Load::default(),
+                shortage: None,
                 errands: Errands::new(alloc, hub),
             },
             kept: Kept::new(alloc),
-            shortage: None,
             routes: HubRoutes::of(hub),
         }
     }
@@ -234,7 +221,6 @@ impl<'a, B: HubLedger, T: Ledger, L: Link, W: Watch, R: Wait + Clock> Desk
     ghost asks = { λ old request answer new. Asks B.opened (record { receipts = old.kept.receipts.items; begun = old.caller.seat.begun.amount; taken = old.caller.seat.taken.amount }) request answer (record { receipts = new.kept.receipts.items; begun = new.caller.seat.begun.amount; taken = new.caller.seat.taken.amount }) };
 
     fn ask(&mut self, request: &Arc<Request>) -> Result<Vec<Part>, DeskFault> {
-        self.shortage = None;
         let Ok(room) = self.room_for(key_count(request)) else {
             return Err(DeskFault::Memory);
         };
@@ -245,10 +231,7 @@ impl<'a, B: HubLedger, T: Ledger, L: Link, W: Watch, R: Wait + Clock> Desk
         } = room;
         match self.take_replies(request, &mut calls, &mut taken) {
             Ok(()) => Ok(into_parts(taken, parts)),
-            Err(fault) => {
-                self.shortage = shortage_of(fault);
-                Err(fault_for(fault))
-            }
+            Err(fault) => Err(fault_for(fault)),
         }
     }
 }
@@ -266,6 +249,7 @@ impl<'a, B: HubLedger, T: Ledger, L: Link, R: Wait + Clock> HubDesk<'a, B, T, L,
         ensures each { HasOneEach (request_value (arc_value request.now)) (answer_value result) }
     {
         self.caller.watch = moment;
+        self.caller.shortage = None;
         self.ask(request)
     }
 
@@ -273,12 +257,12 @@ impl<'a, B: HubLedger, T: Ledger, L: Link, R: Wait + Clock> HubDesk<'a, B, T, L,
     pub fn outlook(&self) -> Outlook
         ensures chapter { result.chapter ≡ self.now.kept.chapter }
         ensures load { result.load ≡ self.now.caller.load }
-        ensures shortage { result.shortage ≡ self.now.shortage }
+        ensures shortage { result.shortage ≡ self.now.caller.shortage }
     {
         Outlook {
             chapter: self.kept.chapter(),
             load: self.caller.load,
-            shortage: self.shortage,
+            shortage: self.caller.shortage,
         }
     }
 

@@ -24,9 +24,10 @@ mod landing;
 mod lanes;
 mod replay;
 mod seen;
+mod shortage;
 mod spooling;
 
-pub use crate::desk::{HubDesk, Outlook, fault_for, into_parts, shortage_of};
+pub use crate::desk::{HubDesk, Outlook, fault_for, into_parts};
 pub use crate::destination::serve_destination;
 pub use crate::ends::Ends;
 pub use crate::fault::ProxyFault;
@@ -34,4 +35,5 @@ pub use crate::gates::{Gates, Link, LinkFault, Load, Shortage, Watch};
 pub use crate::keys::key_count;
 pub use crate::lanes::{Lanes, Links};
 pub use crate::replay::serve_replay;
+pub use crate::shortage::shortage_of;
 pub use crate::spooling::serve_spool;
