@@ -1,0 +1,7 @@
+pub mod Books
+pub mod Legs
+pub mod Outcomes
+pub mod Receipts
+pub mod Routed
+pub mod Runs
+pub mod Taken

@@ -1,0 +1,5 @@
+pub mod Answers
+pub mod Flights
+pub mod Question
+pub mod Runs
+pub mod Steps
