@@ -195,7 +195,7 @@ impl Line {
     }
 
     /// The connection is lost so: the legs in flight over it, the oldest first, are to be sent once more where they may be; the others
-    /// are put behind `arrivals`. An error is that memory ran out: it is overdue, and to be called again.
+    /// are put behind `arrivals`: the oldest of these is lost, and each other one is lost too. An error is that memory ran out: it is overdue, and to be called again.
     pub(crate) fn lose(
         &mut self,
         loss: Loss,
@@ -217,6 +217,7 @@ impl Line {
             upstream.close();
             arrivals.reserve(sent.len())?;
             again.reserve(sent.len())?;
+            let before = arrivals.len();
             while let Some(one) = sent.pop_front() {
                 let _ = upstream.lost();
                 let Sent {
@@ -227,7 +228,8 @@ impl Line {
                 if !is_again && may_ask_again(flight.request.op, loss) {
                     again.push(flight)?;
                 } else {
-                    arrivals.push(Arrival::lost(self.server, flight.leg))?;
+                    let number = arrivals.len() - before;
+                    arrivals.push(Arrival::lost_as(self.server, flight.leg, number))?;
                 }
             }
         }

@@ -1,11 +1,11 @@
 -- What one step of a turn does to the borrowed state (own).
-use Rattle.std.specs.Prelude.{◌≡◌, ◌⊎◌, ℕ, false, Option, Some, None, Result, Ok, Err, OnOk, OnErr}
+use Rattle.std.specs.Prelude.{◌≡◌, ◌⊎◌, ℕ, false, Some, Result, Ok, Err, OnOk, OnErr}
 use Rattle.mcv_base.specs.Reply.{ReplyValue}
 use Rattle.mcv_base.specs.declared.request.CallId.{CallId}
 use Rattle.mcv_base.specs.declared.request.LegId.{LegId}
 use Rattle.mcv_base.specs.declared.request.Request.{Request}
 use Rattle.mcv_base.specs.declared.request.ServerId.{ServerId}
-use Rattle.mcv_core.specs.Events.{IsAnsweredLeg, IsLostLeg, IsMarked}
+use Rattle.mcv_core.specs.Events.{IsAnsweredLeg, IsLostLeg, IsLostTooLeg, IsMarked}
 use Rattle.mcv_core.specs.Requests.{asked_at, asked_by}
 use Rattle.mcv_core.specs.View.{core_view, records_of}
 use Rattle.mcv_core.specs.declared.fault.CoreFault.{CoreFault}
@@ -16,6 +16,8 @@ use Rattle.mcv_hub.specs.Events.{IsHubEvent}
 use Rattle.mcv_hub.specs.Gate.{IsHubBegun}
 use Rattle.mcv_hub.specs.State.{HubView}
 use Rattle.mcv_turn.specs.Flights.{IsNext, IsReplayed, is_marked}
+use Rattle.mcv_turn.specs.declared.arrival.NoReply.{NoReply}
+use Rattle.mcv_turn.specs.declared.arrival.NoReply.TheVariants as no_reply
 use Rattle.mcv_turn.specs.declared.flight.Departure.{Departure}
 use Rattle.mcv_turn.specs.declared.flight.Departure.TheVariants.{Sent, Lost}
 use Rattle.mcv_turn.specs.declared.flight.Flight.{Flight}
@@ -36,20 +38,25 @@ pub record IsLoss (server : ServerId) (leg : LegId) (old new : HubView) (result 
   pub marked : OnOk result (IsHubEvent (IsMarked (core_view mid.core) server) mid new)
   pub refused : OnErr result (new ≡ mid)
 
--- the leg is answered, or lost
-abbrev pub IsLanding : ServerId → LegId → Option ReplyValue → HubView → HubView → Result Step CoreFault → Type 0
-IsLanding server leg (Some x) old new result = IsHubEvent (IsAnsweredLeg (core_view old.core) leg x result) old new
-IsLanding server leg None old new result = IsLoss server leg old new result
+-- or lost too, with the connection of which an older leg's loss has told: no failure of its server more, and no mark
+abbrev pub IsLostAs : ServerId → LegId → NoReply → HubView → HubView → Result Step CoreFault → Type 0
+IsLostAs server leg no_reply.Lost old new result = IsLoss server leg old new result
+IsLostAs server leg no_reply.LostToo old new result = IsHubEvent (IsLostTooLeg (core_view old.core) leg result) old new
+
+-- the leg is answered, or has no reply
+abbrev pub IsLanding : ServerId → LegId → Result ReplyValue NoReply → HubView → HubView → Result Step CoreFault → Type 0
+IsLanding server leg (Ok x) old new result = IsHubEvent (IsAnsweredLeg (core_view old.core) leg x result) old new
+IsLanding server leg (Err why) old new result = IsLostAs server leg why old new result
 
 -- what became of it was reported
-pub record IsReported (server : ServerId) (leg : LegId) (reply : Option ReplyValue) (old new : HubView) : Type 0 where
+pub record IsReported (server : ServerId) (leg : LegId) (reply : Result ReplyValue NoReply) (old new : HubView) : Type 0 where
   pub result : Result Step CoreFault
   pub landing : IsLanding server leg reply old new result
 
 -- the leg, which the spool has as the record of this number, was performed by its server
 pub record WasPerformed (number : ℕ) (leg : LegId) (old new : HubView) : Type 0 where
   pub stored : records_of old.core leg.0 ≡ Some number
-  pub reply : Option ReplyValue
+  pub reply : Result ReplyValue NoReply
   pub server : ServerId
   pub step : Step
   pub landing : IsLanding server leg reply old new (Ok step)

@@ -18,7 +18,8 @@ pub struct StoredLeg {
 #[derive(Drop)]
 pub struct Came {
     pub moment: Moment,
-    /// What became of legs in flight: those of one connection in the order of their sending.
+    /// What became of legs in flight: those of one connection in the order of their sending. Where it is lost, its oldest leg
+    /// is lost, and each other one is lost too.
     pub arrivals: Vec<Arrival>,
     /// Servers that have answered a probe.
     pub answering: Vec<ServerId>,

@@ -2,9 +2,9 @@
 
 ghost use Rattle.std.specs.Prelude.{◌≡◌, true, IfSome, Ok};
 ghost use Rattle.mcv_core.specs.declared.step.Step.{Step as StepOf};
-ghost use Rattle.mcv_turn.specs.Steps.{IsLanding, IsLoss, IsReported, WasPerformed};
+ghost use Rattle.mcv_turn.specs.Steps.{IsLanding, IsLoss, IsLostAs, IsReported, WasPerformed};
 
-use crate::arrival::Arrival;
+use crate::arrival::{Arrival, NoReply};
 use mcv_base::{CallId, LegId, ServerId};
 use mcv_core::{Change, CoreFault, Dispatcher, Step};
 use mcv_hub::{Guard, HubLedger, LegReply};
@@ -32,18 +32,33 @@ pub(crate) fn lose<B: HubLedger, T: Ledger>(
     }
 }
 
-/// A leg in flight was answered, or lost.
+/// A leg in flight was lost, or lost too.
+fn lose_as<B: HubLedger, T: Ledger>(
+    guard: &mut Guard<'_, B, T>,
+    server: ServerId,
+    leg: LegId,
+    why: NoReply,
+) -> Result<Step, CoreFault>
+    ensures { IsLostAs server leg why guard.old guard.new result }
+{
+    match why {
+        NoReply::Lost => lose(guard, server, leg),
+        NoReply::LostToo => guard.lost_too(leg),
+    }
+}
+
+/// A leg in flight was answered, or has no reply.
 fn land<B: HubLedger, T: Ledger>(
     guard: &mut Guard<'_, B, T>,
     server: ServerId,
     leg: LegId,
-    reply: Option<LegReply>,
+    reply: Result<LegReply, NoReply>,
 ) -> Result<Step, CoreFault>
     ensures { IsLanding server leg reply guard.old guard.new result }
 {
     match reply {
-        Some(reply) => guard.answered(leg, reply),
-        None => lose(guard, server, leg),
+        Ok(reply) => guard.answered(leg, reply),
+        Err(why) => lose_as(guard, server, leg, why),
     }
 }
 

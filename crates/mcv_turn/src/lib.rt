@@ -22,7 +22,7 @@ mod spooling;
 mod take;
 
 pub use crate::answer::{Answer, Asker, fault_for};
-pub use crate::arrival::Arrival;
+pub use crate::arrival::{Arrival, NoReply};
 pub use crate::came::{Came, Gives, StoredLeg};
 pub use crate::desk::LoopDesk;
 pub use crate::flight::{Flight, HeldLeg};
