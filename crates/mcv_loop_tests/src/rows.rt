@@ -13,6 +13,7 @@ use mcv_hubs::{Blanks, HubChoice, HubNames, HubPasses, Hubs, Names};
 use mcv_loop::{Limits, Loop};
 use mcv_verdict::{Judgement, judge_input};
 use std::marker::Brand;
+use std::num::NonZeroUsize;
 use std::process::Abort;
 use std::rt::Clock;
 use std::sync::{Arc, Wait};
@@ -300,6 +301,7 @@ fn play<F: HubNames, G: Names, R: AllocGlobal + Wait + Clock + Abort>(
     let alloc = rt.alloc();
     let choice = HubChoice::new(alloc, count).expect(rt, "hubs");
     let capacity = Capacity {
+        flights: NonZeroUsize::MIN,
         bells: 1,
         seats: SEATS,
     };

@@ -2,13 +2,15 @@
 
 ghost use Rattle.std.specs.Prelude.{◌≡◌, ◌+◌, []};
 ghost use Rattle.std.specs.Arc.{arc_value};
-ghost use Rattle.mcv_core.specs.Opening.{opened_view};
+ghost use Rattle.std.specs.Int.NonZero.{non_zero_usize_get};
+ghost use Rattle.mcv_core.specs.Opening.{opened_within};
 
 use crate::scene::{SEATS, Scene, accepted_of, hub_of};
 use mcv_base::ServerId;
 use mcv_check::Accepted;
 use mcv_hub::HubLedger;
 use std::marker::Brand;
+use std::num::NonZeroUsize;
 use std::process::Abort;
 use std::sync::ledger::{Blank, Ledger};
 use std::sync::{Arc, Wait};
@@ -32,6 +34,8 @@ enum Row {
     SpoolTakes,
     LongLine,
     MarkedServer,
+    SeveralDie,
+    ConnectionsDie,
 }
 
 /// Two sessions at once: each is answered its own replies, in the order of its requests.
@@ -248,20 +252,94 @@ fn marked_server<B: HubLedger, T: Ledger, R: AllocGlobal + Abort + Wait>(
     scene.check_books(rt, 5);
 }
 
-/// Plays a row over a hub of its own.
+/// A server dies with three legs in flight, of which it has answered the first: each delete is performed or spooled, and each is
+/// answered once. What was spooled is sent again.
+fn several_die<B: HubLedger, T: Ledger, R: AllocGlobal + Abort + Wait>(
+    rt: &R,
+    scene: Scene<'_, B, T>,
+) {
+    let mut scene = scene;
+    scene.send(rt, 0, b"set a 0 0 1\r\nx\r\n");
+    scene.settle(rt, 3);
+    scene.send(rt, 0, b"delete a\r\n");
+    scene.send(rt, 1, b"delete b\r\n");
+    scene.send(rt, 2, b"delete c\r\n");
+    scene.round(rt);
+    scene.serve(rt, 0);
+    scene.hear_first(rt, 0, b"DELETED\r\nNOT".len());
+    let lost = scene.break_off(rt, 0);
+    assert!(rt; lost == 2, "{lost} legs were lost");
+    scene.connect(rt, 0);
+    scene.round(rt);
+    scene.check_told(rt, 0, b"STORED\r\nDELETED\r\n");
+    scene.check_told(rt, 1, b"");
+    scene.check_told(rt, 2, b"");
+    for _round in 0..6 {
+        if scene.held.is_some() {
+            scene.store(rt);
+        }
+        scene.round(rt);
+    }
+    scene.check_told(rt, 0, b"STORED\r\nDELETED\r\n");
+    scene.check_told(rt, 1, b"NOT_FOUND\r\n");
+    scene.check_told(rt, 2, b"NOT_FOUND\r\n");
+    scene.check_asked(rt, 0, "set a\ndelete a\ndelete b\ndelete c\n");
+    scene.replay();
+    scene.settle(rt, 3);
+    let asked = "set a\ndelete a\ndelete b\ndelete c\ndelete b\ndelete c\n";
+    scene.check_asked(rt, 0, asked);
+    let finished = scene.finished;
+    assert!(rt; finished == 2, "{finished} records are done");
+    scene.check_books(rt, 4);
+}
+
+/// A connection that is lost with three legs is one failure of its server: the third connection marks it, and none before.
+fn connections_die<B: HubLedger, T: Ledger, R: AllocGlobal + Abort + Wait>(
+    rt: &R,
+    scene: Scene<'_, B, T>,
+) {
+    let mut scene = scene;
+    for failure in 0..3 {
+        for client in 0..3 {
+            scene.send(rt, client, b"get a\r\n");
+        }
+        scene.round(rt);
+        let lost = scene.break_off(rt, 0);
+        assert!(rt; lost == 3, "{lost} legs were lost");
+        scene.connect(rt, 0);
+        scene.round(rt);
+        let is_marked = scene.desk.is_marked(ServerId(0));
+        assert!(rt;
+            is_marked == (failure == 2),
+            "after failure {failure}: {is_marked}"
+        );
+    }
+    let mut wanted = Vec::new(rt.alloc());
+    for _failure in 0..3 {
+        let line = b"SERVER_ERROR destination failed\r\n";
+        wanted.extend_from_slice(line).expect(rt, "memory");
+    }
+    for client in 0..3 {
+        scene.check_told(rt, client, wanted.as_slice());
+    }
+    scene.check_books(rt, 9);
+}
+
+/// Plays a row over a hub of its own, of which each server may have so many legs in flight.
 fn play<B: HubLedger, T: Ledger, R: AllocGlobal + Abort + Wait>(
     rt: &R,
     row: Row,
     accepted: Arc<Accepted>,
+    flights: NonZeroUsize,
     begun: Blank,
     taken: Blank,
 )
     requires begun { (begun.name ≡ B.name) × (begun.parts ≡ B.parts) × (begun.parts ≡ SEATS + 1) }
     requires taken { (taken.name ≡ T.name) × (taken.parts ≡ T.parts) × (taken.parts ≡ SEATS + 1) }
     requires number { 0 ≡ B.number }
-    requires opened { B.opened ≡ opened_view (arc_value accepted) [] }
+    requires opened { B.opened ≡ opened_within (non_zero_usize_get flights) (arc_value accepted) [] }
 {
-    let (hub, mut passes) = hub_of::<B, T>(rt, accepted, begun, taken);
+    let (hub, mut passes) = hub_of::<B, T>(rt, accepted, flights, begun, taken);
     let scene = Scene::new(rt, &hub, &mut passes, 3, 2);
     match row {
         Row::TwoAtOnce => two_at_once(rt, scene),
@@ -273,19 +351,28 @@ fn play<B: HubLedger, T: Ledger, R: AllocGlobal + Abort + Wait>(
         Row::SpoolTakes => spool_takes(rt, scene),
         Row::LongLine => long_line(rt, scene),
         Row::MarkedServer => marked_server(rt, scene),
+        Row::SeveralDie => several_die(rt, scene),
+        Row::ConnectionsDie => connections_die(rt, scene),
     }
 }
 
-/// Plays a row over one server.
-fn play_one<R: AllocGlobal + Abort + Wait>(rt: &R, row: Row, text: &str) {
+/// Plays a row where each server may have so many legs in flight.
+fn play_with<R: AllocGlobal + Abort + Wait>(rt: &R, row: Row, text: &str, flights: usize) {
     let accepted = accepted_of(rt, text);
+    let flights = NonZeroUsize::new(flights).expect(rt, "a limit");
     play::<Brand, Brand, R>(
         rt,
         row,
         accepted,
+        flights,
         Blank::new(SEATS + 1),
         Blank::new(SEATS + 1),
     );
+}
+
+/// Plays a row where each server may have one leg in flight.
+fn play_one<R: AllocGlobal + Abort + Wait>(rt: &R, row: Row, text: &str) {
+    play_with(rt, row, text, 1);
 }
 
 #[test]
@@ -331,4 +418,14 @@ fn a_line_of_many_keys(rt: HostRuntime) {
 #[test]
 fn a_server_that_is_marked(rt: HostRuntime) {
     play_one(&rt, Row::MarkedServer, ONE);
+}
+
+#[test]
+fn a_server_that_dies_with_three_legs_in_flight(rt: HostRuntime) {
+    play_with(&rt, Row::SeveralDie, ONE, 3);
+}
+
+#[test]
+fn connections_that_die_with_three_legs_each(rt: HostRuntime) {
+    play_with(&rt, Row::ConnectionsDie, ONE, 3);
 }

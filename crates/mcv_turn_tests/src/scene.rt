@@ -2,7 +2,8 @@
 
 ghost use Rattle.std.specs.Prelude.{◌≡◌, ◌+◌, []};
 ghost use Rattle.std.specs.Arc.{arc_value};
-ghost use Rattle.mcv_core.specs.Opening.{opened_view};
+ghost use Rattle.std.specs.Int.NonZero.{non_zero_usize_get};
+ghost use Rattle.mcv_core.specs.Opening.{opened_within};
 
 use crate::disk::MemoryDisk;
 use crate::server::Server;
@@ -15,6 +16,7 @@ use mcv_spool::{Spool, SpoolFault};
 use mcv_turn::{Answer, Arrival, Asker, Came, Gives, HeldLeg, LoopDesk, StoredLeg};
 use mcv_upstream::Upstream;
 use mcv_verdict::{Judgement, judge_input};
+use std::num::NonZeroUsize;
 use std::process::Abort;
 use std::sync::ledger::{Blank, Ledger};
 use std::sync::{Arc, Wait};
@@ -31,19 +33,21 @@ pub(crate) fn accepted_of(rt: &(impl AllocGlobal + Abort), text: &str) -> Arc<Ac
     }
 }
 
-/// A hub over these routes.
+/// A hub over these routes, of which each server may have so many legs in flight.
 pub(crate) fn hub_of<B: HubLedger, T: Ledger>(
     rt: &(impl AllocGlobal + Abort),
     accepted: Arc<Accepted>,
+    flights: NonZeroUsize,
     begun: Blank,
     taken: Blank,
 ) -> (Hub<B, T>, Passes<B, T>)
     requires begun { (begun.name ≡ B.name) × (begun.parts ≡ B.parts) × (begun.parts ≡ SEATS + 1) }
     requires taken { (taken.name ≡ T.name) × (taken.parts ≡ T.parts) × (taken.parts ≡ SEATS + 1) }
     requires number { 0 ≡ B.number }
-    requires opened { B.opened ≡ opened_view (arc_value accepted) [] }
+    requires opened { B.opened ≡ opened_within (non_zero_usize_get flights) (arc_value accepted) [] }
 {
     let capacity = Capacity {
+        flights,
         bells: 1,
         seats: SEATS,
     };
@@ -267,6 +271,22 @@ impl<'a, B: HubLedger, T: Ledger> Scene<'a, B, T> {
         self.land(rt, server, landed);
     }
 
+    /// The first bytes of what a server says come back, and no others.
+    pub(crate) fn hear_first(
+        &mut self,
+        rt: &(impl AllocGlobal + Abort),
+        server: usize,
+        count: usize,
+    ) {
+        let found = self.servers.get_mut(server).expect(rt, "a server");
+        let says = std::mem::replace(&mut found.says, Vec::new(rt.alloc()));
+        let mut landed = Vec::new(rt.alloc());
+        let upstream = self.upstreams.get_mut(server).expect(rt, "a server");
+        let piece = says.as_slice().get(..count).expect(rt, "a piece");
+        upstream.feed(piece, &mut landed).ok().expect(rt, "replies");
+        self.land(rt, server, landed);
+    }
+
     fn land(&mut self, rt: &(impl AllocGlobal + Abort), server: usize, landed: Vec<Landed>) {
         for came in landed {
             let Landed { leg, reply } = came;
@@ -286,8 +306,8 @@ impl<'a, B: HubLedger, T: Ledger> Scene<'a, B, T> {
             };
             lost.push(leg).expect(rt, "memory");
         }
-        for leg in lost.iter() {
-            let arrival = Arrival::lost(ServerId(server as u32), *leg);
+        for (number, leg) in lost.iter().enumerate() {
+            let arrival = Arrival::lost_as(ServerId(server as u32), *leg, number);
             self.came.arrivals.push(arrival).ok().expect(rt, "memory");
         }
         lost.len()
