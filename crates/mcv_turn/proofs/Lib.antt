@@ -1,5 +1,6 @@
 pub mod Books
 pub mod Legs
+pub mod OpenRequests
 pub mod Outcomes
 pub mod Receipts
 pub mod Routed

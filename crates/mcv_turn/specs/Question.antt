@@ -11,8 +11,10 @@ use Rattle.mcv_route.specs.Routes.{RoutesValue}
 use Rattle.mcv_session.specs.Desk.{keys_of}
 use Rattle.mcv_text.specs.Request.{RequestValue}
 use Rattle.mcv_turn.specs.Answers.{AreBegun, AreFor, AreTaken, WasRefused}
+use Rattle.mcv_turn.specs.declared.answer.Asker.{Asker}
 
 pub record QuestionView : Type 0 where
+  pub asker : Asker
   pub request : RequestValue
   -- the calls that were begun for its first keys
   pub calls : List CallId

@@ -1,13 +1,14 @@
 //! The desk of a loop at one hub.
 
 ghost use Rattle.slab.specs.Slab.{get};
-ghost use Rattle.std.specs.Prelude.{◌≡◌, ◌<◌, ◌||◌, [], ◌∷◌, true, IfSome, not, vec_capacity, vec_len};
+ghost use Rattle.std.specs.Prelude.{◌≡◌, ◌<◌, ◌||◌, [], ◌∷◌, true, IfNone, IfSome, OnErr, OnOk, not, vec_capacity, vec_len};
 ghost use Rattle.std.specs.Arc.{arc_value};
 ghost use Rattle.mcv_hub.specs.Gate.{IsGate, is_closed};
 ghost use Rattle.mcv_hub.specs.declared.gate.Gate.{Gate as HubGate};
 ghost use Rattle.mcv_session.specs.Desk.{answer_value};
 ghost use Rattle.mcv_text.specs.Request.{request_value};
 ghost use Rattle.mcv_turn.specs.Answers.{IsAnswer};
+ghost use Rattle.mcv_turn.specs.OpenRequests.{AreSameOpen, Closes, Opens};
 ghost use Rattle.mcv_turn.specs.Question.{IsDone};
 ghost use Rattle.mcv_turn.specs.Runs.{IsTurn, Runs, SendsMore};
 
@@ -34,7 +35,9 @@ use std::sync::ledger::Ledger;
 /// More turns than come: of the servers under one hold of the lock, and of one server's legs.
 const TURNS: u64 = u64::MAX;
 
-/// The desk of a loop at one hub: it is asked requests, which its turns begin, and answers them once they are done.
+/// The desk of a loop at one hub: it is asked requests, which its turns begin, and answers them once they are done. Clauses see
+/// which requests are open, and who asked each (`open_at` of its questions): `ask` adds one, `answer` takes the one away that it
+/// answers, and `turn` keeps all.
 #[derive(Drop)]
 pub struct LoopDesk<'a, B: HubLedger, T: Ledger> {
     alloc: Global,
@@ -61,6 +64,41 @@ pub struct LoopDesk<'a, B: HubLedger, T: Ledger> {
     is_storing: bool,
     /// For want of memory a question isn't noted where it should be: all are to be looked at.
     overlooks: bool,
+}
+
+/// Makes room for one question more, and for a call that it awaits.
+fn make_room(
+    awaited: &mut HashMap<u64, usize>,
+    entering: &mut VecDeque<usize>,
+) -> Result<(), AllocError> {
+    awaited.reserve(1)?;
+    entering.reserve(1)
+}
+
+/// Whether the question of this number is there and done.
+fn is_done_at<B: HubLedger>(questions: &Slab<Question<B>>, number: usize) -> bool
+    ensures { result ≡ true → IfSome (get questions.now number) IsDone }
+{
+    match questions.get(number) {
+        Some(question) => question.is_done(),
+        None => false,
+    }
+}
+
+/// The next of these numbers at which there is a question that is done; None where none is. The numbers before it go.
+fn next_done<B: HubLedger>(
+    done: &mut VecDeque<usize>,
+    questions: &Slab<Question<B>>,
+) -> Option<usize>
+    ensures { IfSome result (λ number. IfSome (get questions.now number) IsDone) }
+{
+    for _question in 0..done.len() {
+        let number = done.pop_front()?;
+        if is_done_at(questions, number) {
+            return Some(number);
+        }
+    }
+    None
 }
 
 impl<'a, B: HubLedger, T: Ledger> LoopDesk<'a, B, T> {
@@ -92,11 +130,14 @@ impl<'a, B: HubLedger, T: Ledger> LoopDesk<'a, B, T> {
         })
     }
 
-    /// Takes a request: the next turns begin calls for its keys. An error is that memory ran out, and changes nothing.
-    pub fn ask(&mut self, asker: Asker, request: Arc<Request>) -> Result<(), AllocError> {
+    /// Takes a request: the next turns begin calls for its keys, and it is open until it is answered. An error is that memory ran
+    /// out, and changes nothing.
+    pub fn ask(&mut self, asker: Asker, request: Arc<Request>) -> Result<(), AllocError>
+        ensures asked { OnOk result (Opens self.old.questions self.new.questions asker (request_value (arc_value request))) }
+        ensures err { OnErr result (AreSameOpen self.old.questions self.new.questions) }
+    {
         let question = Question::new(self.alloc, asker, request)?;
-        self.awaited.reserve(1)?;
-        self.entering.reserve(1)?;
+        make_room(&mut self.awaited, &mut self.entering)?;
         let number = self.questions.insert(question)?;
         self.is_asked = true;
         if self.entering.push_back(number).is_err() {
@@ -105,29 +146,19 @@ impl<'a, B: HubLedger, T: Ledger> LoopDesk<'a, B, T> {
         Ok(())
     }
 
-    /// The answer to the next request that is done; None where none is.
+    /// The answer to the next open request that is done, which is open no more; None where none is done.
     pub fn answer(&mut self) -> Option<Answer>
-        ensures { IfSome result (λ a. IsAnswer B.opened (request_value (arc_value a.request)) (answer_value a.outcome)) }
+        ensures answer { IfSome result (λ a. IsAnswer B.opened (request_value (arc_value a.request)) (answer_value a.outcome)) }
+        ensures closed { IfSome result (λ a. Closes self.old.questions self.new.questions a.asker (request_value (arc_value a.request))) }
+        ensures none { IfNone result (AreSameOpen self.old.questions self.new.questions) }
     {
-        for _question in 0..self.done.len() {
-            let number = self.done.pop_front()?;
-            if !self.is_done(number) {
-                continue;
-            }
-            let question = self.questions.try_remove(number)?;
-            return Some(question.into_answer(self.routes.get()));
-        }
-        None
-    }
-
-    /// Whether the question of this number is there and done.
-    fn is_done(&self, number: usize) -> bool
-        ensures { result ≡ true → IfSome (get self.now.questions number) IsDone }
-    {
-        match self.questions.get(number) {
-            Some(question) => question.is_done(),
-            None => false,
-        }
+        let Some(number) = next_done(&mut self.done, &self.questions) else {
+            return None;
+        };
+        let Some(question) = self.questions.try_remove(number) else {
+            return None;
+        };
+        Some(question.into_answer(self.routes.get()))
     }
 
     /// How many requests are open: asked, and not answered yet.

@@ -28,8 +28,8 @@ use std::sync::ledger::Ledger;
 const MOST_RUNNING: usize = 1024;
 
 /// A request at the hub that this ledger stands for: calls are begun for its keys, in their order, up to the first that is refused,
-/// and their replies are taken, in the order of the calls. Clauses see the request, the calls, and how
-/// many of them are done with.
+/// and their replies are taken, in the order of the calls. Clauses see who asks, the request, the
+/// calls, and how many of them are done with.
 #[derive(Drop)]
 pub(crate) struct Question<B: HubLedger> {
     asker: Asker,
@@ -53,7 +53,7 @@ impl<B: HubLedger> Model for Question<B> {
 
     ghost Value = { QuestionView };
 
-    ghost view = { λ q. record { request = request_value (arc_value q.request); calls = q.calls.items; done = q.progress.done; refused = q.refused } };
+    ghost view = { λ q. record { asker = q.asker; request = request_value (arc_value q.request); calls = q.calls.items; done = q.progress.done; refused = q.refused } };
 
     ghost invariant = { λ q. IsQuestion B.opened (request_value (arc_value q.request)) q.count q.calls q.taken q.parts q.progress.done q.progress.missed q.refused };
 }
@@ -113,7 +113,7 @@ impl<B: HubLedger> Question<B> {
         asker: Asker,
         request: Arc<Request>,
     ) -> Result<Question<B>, AllocError>
-        ensures { IfOk result (λ q. q ≡ record { request = request_value (arc_value request); calls = []; done = 0; refused = None }) }
+        ensures { IfOk result (λ q. q ≡ record { asker = asker; request = request_value (arc_value request); calls = []; done = 0; refused = None }) }
     {
         let count = key_count(&request);
         let calls = Vec::with_capacity(alloc, count)?;
@@ -205,6 +205,7 @@ impl<B: HubLedger> Question<B> {
     pub(crate) fn into_answer(self, routes: &Routes) -> Answer
         requires routes { routes.now ≡ B.opened.routes }
         requires done { IsDone self }
+        ensures asker { result.asker ≡ self.asker }
         ensures request { request_value (arc_value result.request) ≡ self.request }
         ensures answer { IsAnswer B.opened self.request (answer_value result.outcome) }
     {

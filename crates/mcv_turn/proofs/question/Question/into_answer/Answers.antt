@@ -14,7 +14,7 @@ returns-clause-answer g c =
     let was = c.self.invariant in
     let request = request_value (arc_value q.request) in
     let outcome = c.outcome_of-outcome.result in
-    let done : IsDone (record { request = request; calls = q.calls.items; done = q.progress.done; refused = q.refused }) = subst IsDone (sym c.self.view_is) c.requires.done in
+    let done : IsDone (record { asker = q.asker; request = request; calls = q.calls.items; done = q.progress.done; refused = q.refused }) = subst IsDone (sym c.self.view_is) c.requires.done in
     let is : IsAnswer start request (answer_value outcome) =
     answered start request q.calls.items q.taken.items q.progress.done q.progress.missed q.refused outcome done.all done.each was.begun was.so_far was.refusal
     (rw (c.requires.routes, c.deref.ensures) at c.outcome_of-outcome.ensures.ok) (rw (c.requires.routes, c.deref.ensures) at c.outcome_of-outcome.ensures.err) in
