@@ -6,6 +6,7 @@ ghost use Rattle.std.specs.Arc.{arc_value};
 ghost use Rattle.mcv_session.specs.Desk.{answer_value};
 ghost use Rattle.mcv_text.specs.Request.{request_value};
 ghost use Rattle.mcv_turn.specs.Answers.{AreFor, IsAnswer, desk_fault};
+ghost use Rattle.mcv_turn.specs.OpenRequests.{asked_in};
 ghost use Rattle.mcv_turn.specs.Runs.{Runs};
 ghost use Rattle.mcv_turn.specs.Question.{IsCause, IsDone};
 
@@ -143,7 +144,8 @@ impl<B: HubLedger> Question<B> {
         guard: &mut Guard<'_, B, T>,
         seat: &mut Seat<B, T>,
     )
-        ensures { Runs guard.old [] [] guard.new }
+        ensures run { Runs guard.old [] [] guard.new }
+        ensures asked { asked_in self.new ≡ asked_in self.old }
     {
         match self.refused {
             Some(_) => return,
@@ -168,7 +170,8 @@ impl<B: HubLedger> Question<B> {
         seat: &mut Seat<B, T>,
         kept: &mut Kept,
     ) -> bool
-        ensures { Runs guard.old [] [] guard.new }
+        ensures run { Runs guard.old [] [] guard.new }
+        ensures asked { asked_in self.new ≡ asked_in self.old }
     {
         let calls = self.calls.as_slice();
         let came = take_ready(guard, seat, kept, calls, self.progress, &mut self.taken);

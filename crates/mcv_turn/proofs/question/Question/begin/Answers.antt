@@ -16,11 +16,11 @@ begin_each-begun-requires g c = record {
   more = omega arith;
 }
 
-pub returns-in-Some : goal.returns-in-Some
-returns-in-Some g c = nothing c.args.guard.now
+pub returns-in-Some-clause-run : goal.returns-in-Some-clause-run
+returns-in-Some-clause-run g c = nothing c.args.guard.now
 
-pub returns-then-to-len : goal.returns-then-to-len
-returns-then-to-len g c = nothing c.args.guard.now
+pub returns-then-to-len-clause-run : goal.returns-then-to-len-clause-run
+returns-then-to-len-clause-run g c = nothing c.args.guard.now
 
 pub invariant_of-self : goal.invariant_of-self
 invariant_of-self g c =

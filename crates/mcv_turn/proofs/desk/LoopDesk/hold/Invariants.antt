@@ -1,6 +1,0 @@
-use Rattle.std.proofs.Common.{[]}
-use Rattle.mcv_turn.specs.Runs.{Runs}
-use Rattle.mcv_turn.proofs.desk.LoopDesk.hold.Given as goal
-
-abbrev pub invariant-loop-leg : goal.invariant-loop-leg
-invariant-loop-leg g l = Runs l.fn.guard [] [] l.guard
