@@ -1,7 +1,9 @@
 -- Requests that come to a desk, stay and go.
-use Rattle.slab.specs.Slab.{Slab, Updates, get}
-use Rattle.std.proofs.Common.{◌≡◌, ◌∙◌, ℕ, List, Option, None, Some, ap, refl, sym}
-use Rattle.std.specs.Prelude.{option_map}
+use Rattle.slab.specs.Slab.{Slab, Updates, get, with_value}
+use Rattle.slab.proofs.SlabLemmas.{Updates-with_value}
+use Rattle.std.proofs.Common.{◌≡◌, ◌∙◌, ℕ, inl, inr, List, Option, None, Some, ap, subst, sym}
+use Rattle.std.proofs.lemmas.Bool.{cases_eq}
+use Rattle.std.specs.Prelude.{IsSome, option_map}
 use Rattle.mcv_text.specs.Request.{RequestValue}
 use Rattle.mcv_turn.specs.OpenRequests.{AreSameOpen, Closes, Opens, asked_in, open_at}
 use Rattle.mcv_turn.specs.Question.{QuestionView}
@@ -16,6 +18,15 @@ still_open old mid new h k = λ number. k number ∙ h number
 -- the values are as they were
 pub slots_same : (old new : Slab QuestionView) → new.slots ≡ old.slots → AreSameOpen old new
 slots_same old new same = λ number. ap (λ (slots : List (Option QuestionView)). open_at (record old { slots = slots }) number) same
+
+-- a question goes on: who asks, and what, stays
+pub goes_on : (s : Slab QuestionView) (number : ℕ) (old new : QuestionView) → get s number ≡ Some old → asked_in new ≡ asked_in old → AreSameOpen s (with_value s number new)
+goes_on s number old new there asked =
+    let u = Updates-with_value s number new (subst IsSome (sym there) tt) in
+    λ other. elim (cases_eq other number) [
+      | inl same ↦ ap (open_at (with_value s number new)) same ∙ ap (option_map asked_in) u.changed ∙ ap Some asked ∙ sym (ap (option_map asked_in) there) ∙ sym (ap (open_at s) same)
+      | inr apart ↦ ap (option_map asked_in) (u.others other apart)
+    ]
 
 asked_by : (q : QuestionView) (asker : Asker) (request : RequestValue) → q.asker ≡ asker → q.request ≡ request → Some (asked_in q) ≡ Some (asker, request)
 asked_by q asker request a r = λ j. Some (a j, r j)

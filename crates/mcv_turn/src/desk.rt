@@ -254,7 +254,13 @@ impl<'a, B: HubLedger, T: Ledger> LoopDesk<'a, B, T> {
         ensures run { Runs guard.old [] [] guard.new }
         ensures same { AreSameOpen self.old.questions self.new.questions }
     {
-        begin_at(self.alloc, guard, &mut self.seat, &mut self.questions, number);
+        begin_at(
+            self.alloc,
+            guard,
+            &mut self.seat,
+            &mut self.questions,
+            number,
+        );
         self.note_begun(number);
     }
 

@@ -77,7 +77,11 @@ impl Notes {
     }
 
     /// Takes the marks of servers away that answer again.
-    pub(crate) fn unmark_all<B: HubLedger, T: Ledger>(&mut self, guard: &mut Guard<'_, B, T>, answering: &[ServerId])
+    pub(crate) fn unmark_all<B: HubLedger, T: Ledger>(
+        &mut self,
+        guard: &mut Guard<'_, B, T>,
+        answering: &[ServerId],
+    )
         ensures { Runs guard.old [] [] guard.new }
     {
         for server in answering {
@@ -103,7 +107,12 @@ impl Notes {
 
     /// Reports what became of a leg in flight. A leg more of its server may be sent, and the reply to its call may be there. Where it
     /// was sent again and performed, its record is done, and the server's next one comes.
-    fn report<B: HubLedger, T: Ledger>(&mut self, guard: &mut Guard<'_, B, T>, arrival: Arrival, performed: &mut Vec<u64>)
+    fn report<B: HubLedger, T: Ledger>(
+        &mut self,
+        guard: &mut Guard<'_, B, T>,
+        arrival: Arrival,
+        performed: &mut Vec<u64>,
+    )
         ensures { Runs guard.old (arrival ∷ []) [] guard.new }
     {
         let server = arrival.server;
@@ -120,7 +129,11 @@ impl Notes {
     }
 
     /// Reports what the spool answered to a record.
-    pub(crate) fn settle<B: HubLedger, T: Ledger>(&mut self, guard: &mut Guard<'_, B, T>, stored: Option<StoredLeg>)
+    pub(crate) fn settle<B: HubLedger, T: Ledger>(
+        &mut self,
+        guard: &mut Guard<'_, B, T>,
+        stored: Option<StoredLeg>,
+    )
         ensures { Runs guard.old [] [] guard.new }
     {
         let Some(StoredLeg { leg, outcome }) = stored else {
@@ -162,7 +175,11 @@ impl Notes {
     }
 
     /// Puts legs in flight to all servers that are due, until none is. Legs that are lost at once may launch others.
-    pub(crate) fn send_all<B: HubLedger, T: Ledger>(&mut self, guard: &mut Guard<'_, B, T>, flights: &mut Vec<Flight>)
+    pub(crate) fn send_all<B: HubLedger, T: Ledger>(
+        &mut self,
+        guard: &mut Guard<'_, B, T>,
+        flights: &mut Vec<Flight>,
+    )
         ensures { SendsMore guard.old guard.new flights.old.items flights.new.items }
     {
         for _round in 0..TURNS {
@@ -174,7 +191,11 @@ impl Notes {
     }
 
     /// Puts legs in flight to each server that is due. Whether one was.
-    fn send_round<B: HubLedger, T: Ledger>(&mut self, guard: &mut Guard<'_, B, T>, flights: &mut Vec<Flight>) -> bool
+    fn send_round<B: HubLedger, T: Ledger>(
+        &mut self,
+        guard: &mut Guard<'_, B, T>,
+        flights: &mut Vec<Flight>,
+    ) -> bool
         ensures { SendsMore guard.old guard.new flights.old.items flights.new.items }
     {
         let mut was_due = false;
@@ -276,7 +297,12 @@ impl Notes {
 
     /// Gives the leg out whose record is to be written next. Where the spool isn't to be asked, held legs of which their calls have no
     /// outcome are refused at once.
-    pub(crate) fn hold<B: HubLedger, T: Ledger>(&mut self, guard: &mut Guard<'_, B, T>, may_store: bool, next: &mut Option<HeldLeg>)
+    pub(crate) fn hold<B: HubLedger, T: Ledger>(
+        &mut self,
+        guard: &mut Guard<'_, B, T>,
+        may_store: bool,
+        next: &mut Option<HeldLeg>,
+    )
         ensures { Runs guard.old [] [] guard.new }
     {
         for _leg in 0..TURNS {
