@@ -55,26 +55,26 @@ mcv mend --patch=yes: bad line
 mcv mend --patch --patch: bad line
 mcv mend mcrouter.json: bad line
 mcv mend --window 60: bad line
-mcv run --listen h:1 --spool f: run h:1 f - 1 0 - - -
-mcv run --spool=f --listen=h:1 --sessions=+7: run h:1 f 7 1 0 - - -
-mcv run --listen h:1 --spool f --sessions 1: run h:1 f 1 1 0 - - -
-mcv run --listen h:1 --spool f --sessions 1000000000: run h:1 f 1000000000 1 0 - - -
+mcv run --listen h:1 --spool f: run h:1 f - 1 0 - - - -
+mcv run --spool=f --listen=h:1 --sessions=+7: run h:1 f 7 1 0 - - - -
+mcv run --listen h:1 --spool f --sessions 1: run h:1 f 1 1 0 - - - -
+mcv run --listen h:1 --spool f --sessions 1000000000: run h:1 f 1000000000 1 0 - - - -
 mcv run --listen h:1 --spool f --sessions 1000000001: bad line
 mcv run --listen h:1 --spool f --sessions 0: bad line
 mcv run --listen h:1 --spool f --sessions -1: bad line
 mcv run --listen h:1 --spool f --sessions all: bad line
 mcv run --listen h:1 --spool f --sessions: bad line
 mcv run --listen h:1 --spool f --sessions 1 --sessions 2: bad line
-mcv run --listen h:1 --spool f --hubs 1: run h:1 f - 1 0 - - -
-mcv run --listen h:1 --spool f --hubs=8 --sessions 7: run h:1 f 7 8 0 - - -
+mcv run --listen h:1 --spool f --hubs 1: run h:1 f - 1 0 - - - -
+mcv run --listen h:1 --spool f --hubs=8 --sessions 7: run h:1 f 7 8 0 - - - -
 mcv run --listen h:1 --spool f --hubs 9: bad line
 mcv run --listen h:1 --spool f --hubs 0: bad line
 mcv run --listen h:1 --spool f --hubs auto: bad line
 mcv run --listen h:1 --spool f --hubs: bad line
 mcv run --listen h:1 --spool f --hubs 1 --hubs 2: bad line
-mcv run --listen h:1 --spool f --server-timeout 200: run h:1 f - 1 0 200 - -
-mcv run --listen h:1 --spool f --server-timeout=1 --client-timeout=3600000: run h:1 f - 1 0 1 3600000 -
-mcv run --listen h:1 --spool f --client-timeout 200: run h:1 f - 1 0 - 200 -
+mcv run --listen h:1 --spool f --server-timeout 200: run h:1 f - 1 0 200 - - -
+mcv run --listen h:1 --spool f --server-timeout=1 --client-timeout=3600000: run h:1 f - 1 0 1 3600000 - -
+mcv run --listen h:1 --spool f --client-timeout 200: run h:1 f - 1 0 - 200 - -
 mcv run --listen h:1 --spool f --server-timeout 0: bad line
 mcv run --listen h:1 --spool f --server-timeout 3600001: bad line
 mcv run --listen h:1 --spool f --server-timeout 1s: bad line
@@ -82,11 +82,13 @@ mcv run --listen h:1 --spool f --server-timeout: bad line
 mcv run --listen h:1 --spool f --client-timeout 0: bad line
 mcv run --listen h:1 --spool f --client-timeout 3600001: bad line
 mcv run --listen h:1 --spool f --client-timeout 1 --client-timeout 1: bad line
-mcv run --listen h:1 --spool f --max-clients 1000000: run h:1 f - 1 0 - - 1000000
+mcv run --listen h:1 --spool f --max-clients 1000000: run h:1 f - 1 0 - - 1000000 -
 mcv run --listen h:1 --spool f --max-clients 0: bad line
 mcv run --listen h:1 --spool f --max-clients 1000001: bad line
-mcv run --listen= --spool=: run   - 1 0 - - -
-mcv run --listen h:1 --spool f --window 60: run h:1 f - 1 60 - - -
+mcv run --listen h:1 --spool f --admin a:2: run h:1 f - 1 0 - - - a:2
+mcv run --listen h:1 --spool f --admin a:2 --admin a:2: bad line
+mcv run --listen= --spool=: run   - 1 0 - - - -
+mcv run --listen h:1 --spool f --window 60: run h:1 f - 1 60 - - - -
 mcv run --listen h:1 --spool f --window 4294967296: bad line
 mcv run: bad line
 mcv run --listen h:1: bad line
@@ -149,8 +151,10 @@ fn order_text(rt: &(impl AllocGlobal + Abort), options: RunOptions<'_>) -> Strin
     let RunOptions {
         listen,
         spool,
+        admin,
         settings,
     } = options;
+    let admin = admin.unwrap_or("-");
     let sessions = number_text(rt, settings.sessions.map(|sessions| sessions.count));
     let hubs = settings.hubs.count;
     let window = settings.window.seconds;
@@ -158,7 +162,7 @@ fn order_text(rt: &(impl AllocGlobal + Abort), options: RunOptions<'_>) -> Strin
     let client = number_text(rt, settings.client_timeout.map(|timeout| timeout.millis));
     let clients = number_text(rt, settings.max_clients.map(|clients| clients.count));
     let text = format!(in rt.alloc();
-        "{listen} {spool} {sessions} {hubs} {window} {server} {client} {clients}"
+        "{listen} {spool} {sessions} {hubs} {window} {server} {client} {clients} {admin}"
     );
     text.expect(rt, "memory")
 }
@@ -282,6 +286,7 @@ impl Proxy for Listed {
             listen,
             spool,
             settings,
+            ..
         } = options;
         if listen == "full:1" {
             return Err(RunFault::Memory);
@@ -439,6 +444,7 @@ const RUN_PARTS: &[&str] = &[
     "--server-timeout <MS>",
     "--client-timeout <MS>",
     "--max-clients <N>",
+    "--admin <ADDRESS>",
     "the keys whose hash names\nit",
     "\n  mcv run --listen 127.0.0.1:5000 --spool mcv.spool --server-timeout 1000 \\\n    < mcrouter.json\n",
     "\n  mcv listening 127.0.0.1:5000 pending 0\n",

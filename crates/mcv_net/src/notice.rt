@@ -1,5 +1,6 @@
 //! What an operator sees while the proxy runs.
 
+use crate::service::Service;
 use std::fmt;
 use std::io::Eprint;
 
@@ -24,6 +25,10 @@ pub enum Notice<'a> {
     Crowded(u64),
     /// There is no limit to how long a server may take.
     Unlimited,
+    /// No more clients are accepted, and all has to be done within so many seconds.
+    Draining(u64),
+    /// All is done.
+    Drained,
 }
 
 impl<'a> fmt::Display for Notice<'a> {
@@ -37,6 +42,8 @@ impl<'a> fmt::Display for Notice<'a> {
             Notice::Deaf => write!(f, "mcv: clients can't be accepted"),
             Notice::Hearing => write!(f, "mcv: clients are accepted again"),
             Notice::Crowded(refused) => write!(f, "mcv: too many clients: {refused} refused"),
+            Notice::Draining(seconds) => write!(f, "mcv: a drain began: {seconds} seconds"),
+            Notice::Drained => write!(f, "mcv: a drain ended"),
             Notice::Unlimited => write!(
                 f,
                 "mcv: no --server-timeout: a server that never answers will stop all clients"
@@ -59,5 +66,23 @@ pub struct StandardError<R: Eprint + Drop> {
 impl<R: Eprint + Drop> Notices for StandardError<R> {
     fn note(&mut self, notice: Notice<'_>) {
         let _ = eprintln!(self.rt; "{notice}");
+    }
+}
+
+/// Shows each notice so, and keeps whether the spool takes records for who asks about it.
+#[derive(Drop)]
+pub struct Watched<R: Eprint + Drop> {
+    pub error: StandardError<R>,
+    pub service: Service,
+}
+
+impl<R: Eprint + Drop> Notices for Watched<R> {
+    fn note(&mut self, notice: Notice<'_>) {
+        match notice {
+            Notice::Refusing => self.service.note_refusing(),
+            Notice::Taking => self.service.note_taking(),
+            _ => {}
+        }
+        self.error.note(notice);
     }
 }

@@ -8,8 +8,9 @@ use crate::memory::{Course, End, MemoryDial, Nobody, Seen};
 use mcv_base::{LegRequest, Op, Reply, Rest};
 use mcv_check::Accepted;
 use mcv_hub::{Capacity, Hub, HubLedger, Pass};
-use mcv_net::{Notice, TcpLink};
+use mcv_net::{CountedLink, CountedServer, Notice, TcpLink};
 use mcv_proxy::{Link, LinkFault};
+use mcv_tally::Tally;
 use mcv_verdict::{Judgement, judge_input};
 use std::alloc::Global;
 use std::marker::Brand;
@@ -252,7 +253,7 @@ fn is_text(bytes: &[u8], text: &str) -> bool {
 fn sent<R: Wait + Abort + Copy + Drop>(
     rt: R,
     alloc: Global,
-    link: &mut TcpLink<MemoryDial<R>, Nobody>,
+    link: &mut CountedLink<TcpLink<MemoryDial<R>, Nobody>>,
     pass: &Pass,
     op: Op,
     begins: bool,
@@ -266,7 +267,7 @@ fn sent<R: Wait + Abort + Copy + Drop>(
 fn letters_of<R: Wait + Abort + Copy + Drop>(
     rt: R,
     alloc: Global,
-    link: &mut TcpLink<MemoryDial<R>, Nobody>,
+    link: &mut CountedLink<TcpLink<MemoryDial<R>, Nobody>>,
     pass: &Pass,
     ops: &[Op],
     begins: bool,
@@ -299,18 +300,49 @@ fn link_of<R: Wait + Abort + Copy + Drop>(
     TcpLink::new(alloc, "a:11211", dial, Nobody).expect(&rt, "memory")
 }
 
+/// What is counted of the server, of which there is one.
+fn tally_of(rt: &impl Abort, alloc: Global, accepted: &Accepted) -> Arc<Tally> {
+    let tally = Tally::new(alloc, accepted.routes().servers()).expect(rt, "memory");
+    Arc::new(alloc, tally).expect(rt, "memory")
+}
+
+/// Whether so many legs were begun, and those were lost that have the letter of a loss.
+fn is_counted(tally: &Tally, begun: usize, letters: &[u8]) -> bool {
+    let lost = letters
+        .iter()
+        .filter(|l| **l == b'b' || **l == b'o')
+        .count();
+    match tally.server(0) {
+        Some(server) => server.sent.now() == begun as u64 && server.lost.now() == lost as u64,
+        None => false,
+    }
+}
+
 /// The legs of a row come to what it says.
 fn check_row<R: Wait + Abort + Copy + Drop>(
     rt: R,
     alloc: Global,
+    accepted: &Accepted,
     pass: &Pass,
     row: &Row,
     begins: bool,
 ) {
     let seen = new_seen(&rt, alloc);
-    let mut link = link_of(rt, alloc, row.courses, &seen);
+    let tally = tally_of(&rt, alloc, accepted);
+    let counted = CountedServer {
+        tally: Arc::try_clone(&tally).expect(&rt, "memory"),
+        number: 0,
+    };
+    let link = link_of(rt, alloc, row.courses, &seen);
+    let mut link = CountedLink::new(link, Some(counted));
     let letters = letters_of(rt, alloc, &mut link, pass, row.ops, begins);
     assert!(rt; is_text(letters.as_slice(), row.letters), "{}", row.name);
+    let begun = if begins { row.ops.len() } else { 0 };
+    assert!(rt;
+        is_counted(&tally, begun, letters.as_slice()),
+        "{}",
+        row.name
+    );
     let seen = seen.lock(&rt);
     assert!(rt;
         seen.dials == row.dials && is_text(seen.text.as_slice(), row.text),
@@ -324,9 +356,10 @@ fn legs_go_over_the_kept_connection_or_a_new_one(rt: HostRuntime) {
     let begun = Blank::new(2);
     let taken = Blank::new(2);
     let accepted = accepted_of(&rt, rt.alloc(), CONFIG);
-    let pass = pass_of::<Brand, Brand>(&rt, rt.alloc(), accepted, begun, taken);
+    let same = Arc::try_clone(&accepted).expect(&rt, "memory");
+    let pass = pass_of::<Brand, Brand>(&rt, rt.alloc(), same, begun, taken);
     for row in ROWS {
-        check_row(rt, rt.alloc(), &pass, row, true);
+        check_row(rt, rt.alloc(), &accepted, &pass, row, true);
     }
 }
 
@@ -335,9 +368,10 @@ fn legs_that_are_not_begun_are_sent_too(rt: HostRuntime) {
     let begun = Blank::new(2);
     let taken = Blank::new(2);
     let accepted = accepted_of(&rt, rt.alloc(), CONFIG);
-    let pass = pass_of::<Brand, Brand>(&rt, rt.alloc(), accepted, begun, taken);
+    let same = Arc::try_clone(&accepted).expect(&rt, "memory");
+    let pass = pass_of::<Brand, Brand>(&rt, rt.alloc(), same, begun, taken);
     for row in ROWS {
-        check_row(rt, rt.alloc(), &pass, row, false);
+        check_row(rt, rt.alloc(), &accepted, &pass, row, false);
     }
 }
 

@@ -212,6 +212,10 @@ no_clients : faults (run_line ++ codes "--max-clients" ∷ codes "0" ∷ []) ≡
 unfolding clap_on_literals
 no_clients = refl
 
+admin_named : option_map (λ (p : Text × List Row). one_of (codes "admin") p.1) (named (run_line ++ codes "--admin" ∷ codes "127.0.0.1:5001" ∷ [])) ≡ Some (Some (codes "127.0.0.1:5001"))
+unfolding clap_on_literals
+admin_named = refl
+
 no_spool : faults at_address ≡ MissingRequiredArgument ∷ []
 unfolding clap_on_literals
 no_spool = refl

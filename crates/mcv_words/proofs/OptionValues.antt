@@ -23,8 +23,8 @@ use Rattle.clap.specs.declared.builder.value_parser.ValueParser.TheVariants as p
 use Rattle.clap.specs.declared.builder.value_parser.Reading.TheVariants.{AsWritten}
 use Rattle.clap.specs.declared.parser.matches.ValueSource.{ValueSource}
 use Rattle.clap.specs.declared.parser.matches.ValueSource.TheVariants.{CommandLine, DefaultValue}
-use Rattle.mcv_words.specs.Ranges.{session_limit, timeout_limit, window_limit, client_limit, hub_limit}
-use Rattle.mcv_words.specs.Words.{at_rule, cert_rule, check_app, client_timeout_rule, faults, file_rule, flag_rule, legs_app, listen_rule, mcv_app, named, quiet_rule, run_app, server_timeout_rule, sessions_rule, spool_app, spool_rule, window_rule, max_clients_rule, hubs_rule}
+use Rattle.mcv_words.specs.Ranges.{client_limit, hub_limit, session_limit, timeout_limit, window_limit}
+use Rattle.mcv_words.specs.Words.{admin_rule, at_rule, cert_rule, check_app, client_timeout_rule, faults, file_rule, flag_rule, hubs_rule, legs_app, listen_rule, mcv_app, named, quiet_rule, run_app, server_timeout_rule, sessions_rule, spool_app, spool_rule, window_rule, max_clients_rule}
 use Rattle.mcv_words.proofs.CommandIsNamed.{StopsAtCommand, none_below, none_of, some_kind, stop_of, stops_at_command}
 
 -- ---- rows
@@ -523,6 +523,10 @@ max_clients_tame (v ∷ vs) rows none good =
     written run.rules (codes "max-clients") v vs rows
     (value_passes (repeat_fault false (codes "max-clients") rows) [] (values_fault (with_index 1 (filled max_clients_rule)) vs) _ taken.1) good
 
+admin_tame : IsTame run (with_index 1 (filled admin_rule))
+admin_tame [] rows none good = absurd (some_kind InvalidValue [] none)
+admin_tame (v ∷ vs) rows none good = written run.rules (codes "admin") v vs rows refl good
+
 run_help : IsTame run (with_index 1 (filled help_rule))
 run_help values rows none good = absurd (no_help values rows none)
 
@@ -544,7 +548,7 @@ both_given false b e = absurd (some_kind MissingRequiredArgument [] e)
 
 run_given : (words : List Text) → level_fault run [] nothing_held words false [] ≡ [] → HasAll (rows_after run.rules [] words)
 run_given words none =
-    let tame : AreTame run run.rules = (listen_tame, (spool_tame, (sessions_tame, (hubs_tame, (window_tame, (server_timeout_tame, (client_timeout_tame, (max_clients_tame, (run_help, tt))))))))) in
+    let tame : AreTame run run.rules = (listen_tame, (spool_tame, (sessions_tame, (hubs_tame, (window_tame, (server_timeout_tame, (client_timeout_tame, (max_clients_tame, (admin_tame, (run_help, tt)))))))))) in
     let start : List Row = (settled run.rules (walk run.rules [] nothing_held words).held).rows in
     let listened : List Row = with_default start (with_index 1 (filled listen_rule)) in
     let spooled : List Row = with_default listened (with_index 1 (filled spool_rule)) in
@@ -553,14 +557,16 @@ run_given words none =
     let all : List Row = with_default beside (with_index 1 (filled window_rule)) in
     let served : List Row = with_default all (with_index 1 (filled server_timeout_rule)) in
     let timed : List Row = with_default served (with_index 1 (filled client_timeout_rule)) in
-    let after : List Row = with_default timed (with_index 1 (filled max_clients_rule)) in
+    let seated : List Row = with_default timed (with_index 1 (filled max_clients_rule)) in
+    let after : List Row = with_default seated (with_index 1 (filled admin_rule)) in
     let same : counted ≡ start = unchanged (has_row (codes "sessions") spooled) spooled ∙ (unchanged (has_row (codes "spool") listened) listened ∙ unchanged (has_row (codes "listen") start) start) in
     let leaf = leaf_good run tame words none in
     let first = defaulted run.rules (codes "hubs") (codes "1") counted refl refl (subst (λ (rows : List Row). AreGood run.rules rows) (sym same) leaf.0) in
     let last = defaulted run.rules (codes "window") (codes "0") beside refl refl first.0 in
     let ended : rows_after run.rules [] words ≡ all =
     unchanged (has_row (codes "help") after) after
-    ∙ (unchanged (has_row (codes "max-clients") timed) timed ∙ (unchanged (has_row (codes "client-timeout") served) served ∙ unchanged (has_row (codes "server-timeout") all) all)) in
+    ∙ (unchanged (has_row (codes "admin") seated) seated
+    ∙ (unchanged (has_row (codes "max-clients") timed) timed ∙ (unchanged (has_row (codes "client-timeout") served) served ∙ unchanged (has_row (codes "server-timeout") all) all))) in
     let both = both_given (is_given (codes "listen") all) (is_given (codes "spool") all) (subst (λ (rows : List Row). check_fault run rows false ≡ []) ended leaf.1) in
     let listen = found_value run.rules (codes "listen") all (given_has (codes "listen") all both.0) last.0 in
     let spool = found_value run.rules (codes "spool") all (given_has (codes "spool") all both.1) last.0 in

@@ -104,9 +104,13 @@ client_timeout_rule = number_rule (codes "client-timeout") 1 timeout_limit
 abbrev pub max_clients_rule : Rule
 max_clients_rule = number_rule (codes "max-clients") 1 client_limit
 
+-- `--admin ADDRESS`
+abbrev pub admin_rule : Rule
+admin_rule = option_rule (codes "admin")
+
 -- the options of `run`, in the order of its help
 abbrev pub run_rules : List Rule
-run_rules = listen_rule ∷ spool_rule ∷ sessions_rule ∷ hubs_rule ∷ window_rule ∷ server_timeout_rule ∷ client_timeout_rule ∷ max_clients_rule ∷ []
+run_rules = listen_rule ∷ spool_rule ∷ sessions_rule ∷ hubs_rule ∷ window_rule ∷ server_timeout_rule ∷ client_timeout_rule ∷ max_clients_rule ∷ admin_rule ∷ []
 
 -- `run --listen ADDRESS --spool FILE` with the options whose rules stand above
 abbrev pub run_app : App
@@ -190,19 +194,22 @@ pub record HasSettings (rows : List Row) (s : Settings) : Type 0 where
   pub client_timeout : IsNumberIfGiven (codes "client-timeout") rows (option_map (λ (t : ClientTimeout). t.millis) s.client_timeout)
   pub max_clients : IsNumberIfGiven (codes "max-clients") rows (option_map (λ (n : MaxClients). n.count) s.max_clients)
 
--- what `run` is asked for: the address, the name of the spool's file, and the numbers, each of which is in its range by its type
+-- what `run` is asked for: the address, the name of the spool's file, the operator's address or none, and the numbers, each of which is in its
+-- range by its type
 pub record RunOrder : Type 0 where
   pub listen : Text
   pub spool : Text
+  pub admin : Option Text
   pub settings : Settings
 
 abbrev pub order_of : RunOptions → RunOrder
-order_of o = record { listen = o.listen.now; spool = o.spool.now; settings = o.settings }
+order_of o = record { listen = o.listen.now; spool = o.spool.now; admin = option_map (λ address. address.now) o.admin; settings = o.settings }
 
 -- the values of the options of `run`
 pub record HasRunValues (rows : List Row) (order : RunOrder) : Type 0 where
   pub listen : first_of (codes "listen") rows ≡ Some order.listen
   pub spool : first_of (codes "spool") rows ≡ Some order.spool
+  pub admin : order.admin ≡ first_of (codes "admin") rows
   pub settings : HasSettings rows order.settings
 
 -- clap takes the words, and they name the command `run` with these values

@@ -272,6 +272,10 @@ take nothing, from 1 to 3600000; without it, any";
 pub(crate) const MAX_CLIENTS: &str = "How many clients are served at once,
 from 1 to 1000000; without it, any number";
 
+pub(crate) const ADMIN: &str = "Where an operator asks over HTTP: GET /metrics,
+GET /health, POST /drain; give an address that no
+other can reach";
+
 pub(crate) const RUN_FORM: &str =
     "Standard input has the configuration as JSON; `mcv legs --help` says which route
 handles are read. It is judged first, as by `mcv check` with the same window:

@@ -184,6 +184,8 @@ pub struct RunOptions<'a> {
     pub listen: &'a str,
     /// The name of the spool's file.
     pub spool: &'a str,
+    /// The address at which an operator may ask; None where none may.
+    pub admin: Option<&'a str>,
     pub settings: Settings,
 }
 

@@ -5,14 +5,14 @@ ghost use Rattle.std.specs.Prelude.{◌≡◌, codes, false, option_map, IfOk, I
 ghost use Rattle.clap.specs.Words.{Text, app_of, first_of, found_of, kind_of, rows_of, rule_of};
 ghost use Rattle.clap.specs.declared.builder.command.Command.TheViews.{out-Command as fields_of};
 ghost use Rattle.mcv_words.specs.Ranges.{window_limit};
-ghost use Rattle.mcv_words.specs.Words.{at_rule, cert_rule, check_app, client_timeout_rule, file_rule, flag_rule, draw_app, hubs_rule, legs_app, line_fault_number, listen_rule, max_clients_rule, mcv_app, mend_app, quiet_rule, run_app, server_timeout_rule, sessions_rule, spool_app, spool_rule, window_rule, CanRun, IsCheckOf, IsDrawOf, IsFaultOfKind, IsGivenIn, IsJobOf, IsLineFault, IsMendOf, IsNumberIfGiven, IsRunOf, IsSpoolOf, MayBeGivenIn};
+ghost use Rattle.mcv_words.specs.Words.{admin_rule, at_rule, cert_rule, check_app, client_timeout_rule, file_rule, flag_rule, draw_app, hubs_rule, legs_app, line_fault_number, listen_rule, max_clients_rule, mcv_app, mend_app, quiet_rule, run_app, server_timeout_rule, sessions_rule, spool_app, spool_rule, window_rule, CanRun, IsCheckOf, IsDrawOf, IsFaultOfKind, IsGivenIn, IsJobOf, IsLineFault, IsMendOf, IsNumberIfGiven, IsRunOf, IsSpoolOf, MayBeGivenIn};
 ghost use Rattle.mcv_words.specs.declared.words.LineFault.TheVariants.{Memory as out_of_memory};
 
 use crate::help::{
-    ABOUT, ALL, AT, CERT, CHECK_ABOUT, CHECK_FORM, CLIENT_TIMEOUT, DOT, DRAW_ABOUT, DRAW_FORM,
-    EXAMPLE, EXPLAIN, FILE, HUBS, JSON, LEGS_ABOUT, LEGS_FORM, LISTEN, MAX_CLIENTS, MEND_ABOUT,
-    MEND_FORM, PATCH, QUIET, RUN_ABOUT, RUN_FORM, SERVER_TIMEOUT, SESSIONS, SPOOL, SPOOL_ABOUT,
-    SPOOL_FORM, WINDOW,
+    ABOUT, ADMIN, ALL, AT, CERT, CHECK_ABOUT, CHECK_FORM, CLIENT_TIMEOUT, DOT, DRAW_ABOUT,
+    DRAW_FORM, EXAMPLE, EXPLAIN, FILE, HUBS, JSON, LEGS_ABOUT, LEGS_FORM, LISTEN, MAX_CLIENTS,
+    MEND_ABOUT, MEND_FORM, PATCH, QUIET, RUN_ABOUT, RUN_FORM, SERVER_TIMEOUT, SESSIONS, SPOOL,
+    SPOOL_ABOUT, SPOOL_FORM, WINDOW,
 };
 use crate::options::{
     CheckOptions, ClientTimeout, Hubs, InRange, MaxClients, RunOptions, ServerTimeout, Sessions,
@@ -269,6 +269,16 @@ fn max_clients_option<'a>(alloc: Global) -> Arg<'a>
         .help(MAX_CLIENTS)
 }
 
+fn admin_option<'a>(alloc: Global) -> Arg<'a>
+    ensures rule { rule_of result ≡ admin_rule }
+    ensures local { result.global ≡ false }
+{
+    Arg::new(alloc, "admin")
+        .long("admin")
+        .value_name("ADDRESS")
+        .help(ADMIN)
+}
+
 fn run_command<'a>(alloc: Global) -> Result<Command<'a>, AllocError>
     ensures app { IfOk result (λ c. app_of c ≡ run_app) }
     ensures local { IfOk result (λ c. (fields_of c).has_globals ≡ false) }
@@ -284,7 +294,8 @@ fn run_command<'a>(alloc: Global) -> Result<Command<'a>, AllocError>
         .arg(window_option(alloc))?
         .arg(server_timeout_option(alloc))?
         .arg(client_timeout_option(alloc))?
-        .arg(max_clients_option(alloc))
+        .arg(max_clients_option(alloc))?
+        .arg(admin_option(alloc))
 }
 
 fn file_argument<'a>(alloc: Global) -> Arg<'a>
@@ -423,9 +434,11 @@ fn run_job<'a>(found: &ArgMatches<'a>) -> Result<Job<'a>, LineFault>
     let server_timeout = number_of::<ServerTimeout>(found, "server-timeout")?;
     let client_timeout = number_of::<ClientTimeout>(found, "client-timeout")?;
     let max_clients = number_of::<MaxClients>(found, "max-clients")?;
+    let admin = found.get_str("admin");
     Ok(Job::Run(RunOptions {
         listen,
         spool,
+        admin,
         settings: Settings {
             sessions,
             hubs,

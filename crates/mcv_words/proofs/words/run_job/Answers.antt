@@ -22,6 +22,7 @@ returns-clause-job c =
     record {
       listen = sym (c.in-Some.ensures ∙ first_value-rows found (codes "listen"));
       spool = sym (c.in-Some-get_str.ensures ∙ first_value-rows found (codes "spool"));
+      admin = c.get_str-admin.ensures ∙ first_value-rows found (codes "admin");
       settings = record {
         sessions = c.in_ok-sessions.ensures.number;
         hubs = rw c.in-Some-2.is at c.in_ok-hubs.ensures.number;

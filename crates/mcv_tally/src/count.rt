@@ -1,0 +1,28 @@
+//! A number that only grows.
+
+use std::sync::atomic::{AtomicU64, Ordering};
+
+/// How often something has happened, as threads add to it. It begins again at 0 behind 2^64 - 1, to which no run comes.
+#[derive(Drop)]
+pub struct Count {
+    number: AtomicU64,
+}
+
+impl Count {
+    /// Never yet.
+    pub fn new() -> Count {
+        Count {
+            number: AtomicU64::new(0),
+        }
+    }
+
+    /// Once more.
+    pub fn more(&self) {
+        let _before = self.number.fetch_add(1, Ordering::SeqCst);
+    }
+
+    /// How often up to now.
+    pub fn now(&self) -> u64 {
+        self.number.load(Ordering::SeqCst)
+    }
+}
