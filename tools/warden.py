@@ -1,23 +1,15 @@
-import os,time,re,sys
-# sweep sessions: those in /work/sched/high (pids of rt ci); q's processes have autogroup 4 by q; all else that computes: 14
-def cmd(p):
-    try: return open(f'/proc/{p}/cmdline','rb').read().decode(errors='replace').split('\0')
-    except OSError: return []
-def setg(p,n):
-    try:
-        cur=int(open(f'/proc/{p}/autogroup').read().split()[-1])
-        if cur!=n: open(f'/proc/{p}/autogroup','w').write(str(n))
-    except (OSError,ValueError): pass
+import os, time
+CHAIN = set("mcv_base mcv_pools mcv_names mcv_config mcv_route mcv_rules mcv_plan mcv_classes mcv_symbolic mcv_world mcv_events mcv_asks mcv_blocks mcv_cert mcv_judge mcv_check mcv_core mcv_queues mcv_spool mcv_hub mcv_hubs mcv_proxy mcv_fleet mcv_net mcv_cli".split())
 while True:
-    high=set()
-    for p in os.listdir('/proc'):
-        if p.isdigit():
-            c=' '.join(cmd(p))
-            try: ag=open(f'/proc/{p}/autogroup').read().split()
-            except OSError: continue
-            try: cwd=os.readlink(f'/proc/{p}/cwd')
-            except OSError: cwd=''
-            if ('/work/sweep/' in cwd or '/work/gate' in cwd) and ('rt ci' in c or 'rattle' in c): setg(p,-16); continue
-            if 'rattle' in c or 'rt try' in c or 'chromium' in c:
-                if ag[-1] in ("x",) and os.path.exists("/proc/%s" % p) and int(p) not in (22244,): setg(p,6)
+    for p in os.listdir("/proc"):
+        if not p.isdigit(): continue
+        try:
+            c = open(f"/proc/{p}/cmdline", "rb").read().decode(errors="replace").split("\0")
+            if not c[0].endswith("/rattle") or "--crate-name" not in c: continue
+            name = c[c.index("--crate-name") + 1]
+            edit = "/rt-edit-" in os.readlink(f"/proc/{p}/cwd")
+            n = 0 if name in CHAIN and not edit and "--test" not in c else 10
+            for t in os.listdir(f"/proc/{p}/task"):
+                if os.getpriority(os.PRIO_PROCESS, int(t)) != n: os.setpriority(os.PRIO_PROCESS, int(t), n)
+        except (OSError, ValueError): continue
     time.sleep(3)
