@@ -1,5 +1,5 @@
 import os, time
-CHAIN = set("mcv_base mcv_pools mcv_names mcv_config mcv_route mcv_rules mcv_plan mcv_classes mcv_symbolic mcv_world mcv_events mcv_asks mcv_blocks mcv_cert mcv_judge mcv_check mcv_core mcv_queues mcv_spool mcv_hub mcv_hubs mcv_proxy mcv_fleet mcv_net mcv_cli".split())
+CHAIN = set("mcv_base mcv_pools mcv_names mcv_config mcv_route mcv_rules mcv_plan mcv_classes mcv_symbolic mcv_world mcv_events mcv_asks mcv_blocks mcv_cert mcv_judge mcv_check mcv_core mcv_queues mcv_spool mcv_hub mcv_hubs mcv_proxy mcv_fleet mcv_net mcv_cli mcv_words mcv_show mcv_command mcv_picture".split())
 while True:
     for p in os.listdir("/proc"):
         if not p.isdigit(): continue
