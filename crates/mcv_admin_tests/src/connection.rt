@@ -3,7 +3,7 @@
 ghost use Rattle.std.specs.Prelude.{⊤};
 
 use mcv_admin::{Health, Panel, serve_request};
-use mcv_metrics::{ClientCounts, Snapshot};
+use mcv_metrics::{ClientCounts, Snapshot, SpoolCounts, WordCounts};
 use std::alloc::{AllocError, Global};
 use std::process::Abort;
 use std::test::Fail;
@@ -24,9 +24,15 @@ impl Panel for Kept {
 
     fn snapshot(&self, alloc: Global) -> Result<Snapshot, AllocError> {
         Ok(Snapshot {
+            words: WordCounts {
+                calls: Vec::new(alloc),
+                replies: Vec::new(alloc),
+                refusals: Vec::new(alloc),
+            },
             servers: Vec::new(alloc),
+            spool: SpoolCounts::default(),
+            hubs: Vec::new(alloc),
             clients: ClientCounts::default(),
-            refusing: 0,
             uptime: 60,
             version: 1,
         })

@@ -50,7 +50,16 @@ struct Order {
     accepted: Arc<Accepted>,
     listen: String,
     spool: String,
+    admin: Option<String>,
     settings: Settings,
+}
+
+/// A text of one's own.
+fn owned(alloc: Global, text: Option<&str>) -> Result<Option<String>, AllocError> {
+    match text {
+        Some(text) => Ok(Some(String::from_str(alloc, text)?)),
+        None => Ok(None),
+    }
 }
 
 impl Order {
@@ -62,12 +71,14 @@ impl Order {
         let RunOptions {
             listen,
             spool,
+            admin,
             settings,
         } = options;
         Ok(Order {
             accepted,
             listen: String::from_str(alloc, listen)?,
             spool: String::from_str(alloc, spool)?,
+            admin: owned(alloc, admin)?,
             settings,
         })
     }
@@ -168,11 +179,13 @@ where
         accepted,
         listen,
         spool,
+        admin,
         settings,
     } = order;
     let options = RunOptions {
         listen: listen.as_str(),
         spool: spool.as_str(),
+        admin: admin.as_ref().map(|address| address.as_str()),
         settings,
     };
     match serve(rt, alloc, accepted, options, out) {

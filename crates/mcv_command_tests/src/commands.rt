@@ -55,26 +55,26 @@ mcv mend --patch=yes: bad line
 mcv mend --patch --patch: bad line
 mcv mend mcrouter.json: bad line
 mcv mend --window 60: bad line
-mcv run --listen h:1 --spool f: run h:1 f - 1 0 - - -
-mcv run --spool=f --listen=h:1 --sessions=+7: run h:1 f 7 1 0 - - -
-mcv run --listen h:1 --spool f --sessions 1: run h:1 f 1 1 0 - - -
-mcv run --listen h:1 --spool f --sessions 1000000000: run h:1 f 1000000000 1 0 - - -
+mcv run --listen h:1 --spool f: run h:1 f - 1 0 - - - -
+mcv run --spool=f --listen=h:1 --sessions=+7: run h:1 f 7 1 0 - - - -
+mcv run --listen h:1 --spool f --sessions 1: run h:1 f 1 1 0 - - - -
+mcv run --listen h:1 --spool f --sessions 1000000000: run h:1 f 1000000000 1 0 - - - -
 mcv run --listen h:1 --spool f --sessions 1000000001: bad line
 mcv run --listen h:1 --spool f --sessions 0: bad line
 mcv run --listen h:1 --spool f --sessions -1: bad line
 mcv run --listen h:1 --spool f --sessions all: bad line
 mcv run --listen h:1 --spool f --sessions: bad line
 mcv run --listen h:1 --spool f --sessions 1 --sessions 2: bad line
-mcv run --listen h:1 --spool f --proxies 1: run h:1 f - 1 0 - - -
-mcv run --listen h:1 --spool f --proxies=64 --sessions 7: run h:1 f 7 64 0 - - -
-mcv run --listen h:1 --spool f --proxies 65: bad line
-mcv run --listen h:1 --spool f --proxies 0: bad line
-mcv run --listen h:1 --spool f --proxies auto: bad line
-mcv run --listen h:1 --spool f --proxies: bad line
-mcv run --listen h:1 --spool f --proxies 1 --proxies 2: bad line
-mcv run --listen h:1 --spool f --server-timeout 200: run h:1 f - 1 0 200 - -
-mcv run --listen h:1 --spool f --server-timeout=1 --client-timeout=3600000: run h:1 f - 1 0 1 3600000 -
-mcv run --listen h:1 --spool f --client-timeout 200: run h:1 f - 1 0 - 200 -
+mcv run --listen h:1 --spool f --hubs 1: run h:1 f - 1 0 - - - -
+mcv run --listen h:1 --spool f --hubs=8 --sessions 7: run h:1 f 7 8 0 - - - -
+mcv run --listen h:1 --spool f --hubs 9: bad line
+mcv run --listen h:1 --spool f --hubs 0: bad line
+mcv run --listen h:1 --spool f --hubs auto: bad line
+mcv run --listen h:1 --spool f --hubs: bad line
+mcv run --listen h:1 --spool f --hubs 1 --hubs 2: bad line
+mcv run --listen h:1 --spool f --server-timeout 200: run h:1 f - 1 0 200 - - -
+mcv run --listen h:1 --spool f --server-timeout=1 --client-timeout=3600000: run h:1 f - 1 0 1 3600000 - -
+mcv run --listen h:1 --spool f --client-timeout 200: run h:1 f - 1 0 - 200 - -
 mcv run --listen h:1 --spool f --server-timeout 0: bad line
 mcv run --listen h:1 --spool f --server-timeout 3600001: bad line
 mcv run --listen h:1 --spool f --server-timeout 1s: bad line
@@ -82,11 +82,13 @@ mcv run --listen h:1 --spool f --server-timeout: bad line
 mcv run --listen h:1 --spool f --client-timeout 0: bad line
 mcv run --listen h:1 --spool f --client-timeout 3600001: bad line
 mcv run --listen h:1 --spool f --client-timeout 1 --client-timeout 1: bad line
-mcv run --listen h:1 --spool f --max-clients 1000000: run h:1 f - 1 0 - - 1000000
+mcv run --listen h:1 --spool f --max-clients 1000000: run h:1 f - 1 0 - - 1000000 -
 mcv run --listen h:1 --spool f --max-clients 0: bad line
 mcv run --listen h:1 --spool f --max-clients 1000001: bad line
-mcv run --listen= --spool=: run   - 1 0 - - -
-mcv run --listen h:1 --spool f --window 60: run h:1 f - 1 60 - - -
+mcv run --listen h:1 --spool f --admin a:2: run h:1 f - 1 0 - - - a:2
+mcv run --listen h:1 --spool f --admin a:2 --admin a:2: bad line
+mcv run --listen= --spool=: run   - 1 0 - - - -
+mcv run --listen h:1 --spool f --window 60: run h:1 f - 1 60 - - - -
 mcv run --listen h:1 --spool f --window 4294967296: bad line
 mcv run: bad line
 mcv run --listen h:1: bad line
@@ -149,16 +151,18 @@ fn order_text(rt: &(impl AllocGlobal + Abort), options: RunOptions<'_>) -> Strin
     let RunOptions {
         listen,
         spool,
+        admin,
         settings,
     } = options;
+    let admin = admin.unwrap_or("-");
     let sessions = number_text(rt, settings.sessions.map(|sessions| sessions.count));
-    let proxies = settings.proxies.count;
+    let hubs = settings.hubs.count;
     let window = settings.window.seconds;
     let server = number_text(rt, settings.server_timeout.map(|timeout| timeout.millis));
     let client = number_text(rt, settings.client_timeout.map(|timeout| timeout.millis));
     let clients = number_text(rt, settings.max_clients.map(|clients| clients.count));
     let text = format!(in rt.alloc();
-        "{listen} {spool} {sessions} {proxies} {window} {server} {client} {clients}"
+        "{listen} {spool} {sessions} {hubs} {window} {server} {client} {clients} {admin}"
     );
     text.expect(rt, "memory")
 }
@@ -282,16 +286,17 @@ impl Proxy for Listed {
             listen,
             spool,
             settings,
+            ..
         } = options;
         if listen == "full:1" {
             return Err(RunFault::Memory);
         }
         let servers = accepted.routes().servers().len();
         let sessions = settings.sessions.map_or(0, |sessions| sessions.count);
-        let proxies = settings.proxies.count;
+        let hubs = settings.hubs.count;
         let millis = settings.server_timeout.map_or(0, |timeout| timeout.millis);
         let Ok(line) = format!(in alloc;
-            "{listen} {spool} {sessions} {proxies} {millis} of {servers}\n"
+            "{listen} {spool} {sessions} {hubs} {millis} of {servers}\n"
         ) else {
             return Err(RunFault::Memory);
         };
@@ -434,12 +439,13 @@ const RUN_PARTS: &[&str] = &[
     "--listen <ADDRESS>",
     "--spool <FILE>",
     "--sessions <N>",
-    "--proxies <N>",
+    "--hubs <N>",
     "[default: 1]",
     "--server-timeout <MS>",
     "--client-timeout <MS>",
     "--max-clients <N>",
-    "mcrouter's `--num-proxies`",
+    "--admin <ADDRESS>",
+    "the keys whose hash names\nit",
     "\n  mcv run --listen 127.0.0.1:5000 --spool mcv.spool --server-timeout 1000 \\\n    < mcrouter.json\n",
     "\n  mcv listening 127.0.0.1:5000 pending 0\n",
     "\n  mcv closed calls 12\n",
@@ -678,7 +684,7 @@ fn patches_are_written(rt: HostRuntime) {
     check_said(&rt, &words, "{", "mcv: configuration 1 at .", 2);
 }
 
-/// What the program says and does where it is to serve three sessions at an address by two proxies.
+/// What the program says and does where it is to serve three sessions at an address by two hubs.
 fn check_run(
     rt: &(impl AllocGlobal + Abort),
     address: &str,
@@ -695,7 +701,7 @@ fn check_run(
         "f",
         "--sessions",
         "3",
-        "--proxies",
+        "--hubs",
         "2",
         "--server-timeout",
         "200",

@@ -25,7 +25,7 @@ use Rattle.mcv_core.specs.Answers.{done_answer, leg_answer, state_answer}
 use Rattle.mcv_core.specs.Asking.{IsAsked}
 use Rattle.mcv_core.specs.CoreView.{CoreView, Does, Moved}
 use Rattle.mcv_core.specs.Events.{Begins}
-use Rattle.mcv_core.specs.Steps.{Step, Steps, begun, sent, replayed, answered, lost, spooled, refused, marked, unmarked, clocked, turned, taken, none, more, with_move}
+use Rattle.mcv_core.specs.Steps.{Step, Steps, begun, sent, replayed, answered, lost, lost_too, spooled, refused, marked, unmarked, clocked, turned, taken, none, more, with_move}
 use Rattle.mcv_core.proofs.EventsLead.{Leads, begun_leads, clock_leads, goes, leg_leads, next_leads, replay_leads, stays, step_leads, take_leads, turn_leads}
 use Rattle.mcv_core.specs.declared.run.Answer.{Answer}
 use Rattle.mcv_core.specs.declared.run.Answer.TheVariants as answer
@@ -258,6 +258,7 @@ module _ (r : RoutesValue) (chosen : SymbolValue → List ℕ → ℕ) where
   step_holds o v u events answers e a m h (replayed server x n z d) = led_step o v z n events answers (event.Replay server) (leg_answer x) h (replay_leads v server x n z d) refl refl
   step_holds o v u events answers e a m h (answered leg reply x n z d) = led_step o v z n events answers (event.Answered leg reply) (state_answer x) h (leg_leads _ leg _ v x n z d) refl refl
   step_holds o v u events answers e a m h (lost leg x n z d) = led_step o v z n events answers (event.Lost leg) (state_answer x) h (leg_leads _ leg _ v x n z d) refl refl
+  step_holds o v u events answers e a m h (lost_too leg x n z d) = led_step o v z n events answers (event.LostToo leg) (state_answer x) h (leg_leads _ leg _ v x n z d) refl refl
   step_holds o v u events answers e a m h (spooled leg stored x n z d) = led_step o v z n events answers (event.Spooled leg stored) (state_answer x) h (leg_leads _ leg _ v x n z d) refl refl
   step_holds o v u events answers e a m h (refused leg x n z d) = led_step o v z n events answers (event.SpoolRefused leg) (state_answer x) h (leg_leads _ leg _ v x n z d) refl refl
   step_holds o v u events answers e a m h (marked server n z d) = led_step o v z n events answers (event.Mark server) answer.Done h (step_leads chosen v z (event.Mark server) answer.Done n (marked server n z d)) refl refl

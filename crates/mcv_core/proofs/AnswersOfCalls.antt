@@ -21,8 +21,8 @@ use Rattle.mcv_core.specs.Answers.{call_answer, done_answer, leg_answer, state_a
 use Rattle.mcv_core.specs.Asking.{IsAsked, IsUnbegun}
 use Rattle.mcv_core.specs.Beginning.{HasBegun, IsUnstarted, asked_call, began_for}
 use Rattle.mcv_core.specs.CoreView.{CoreView, Moved}
-use Rattle.mcv_core.specs.Events.{IsAnsweredLeg, IsBegun, IsClocked, IsEvent, IsLostLeg, IsMarked, IsNext, IsRefusedLeg, IsReplay, IsSpooledLeg, IsTaken, IsTurned, IsUnmarked}
-use Rattle.mcv_core.specs.Steps.{IsAnswered, begun, sent, replayed, answered, lost, spooled, refused, marked, unmarked, clocked, turned, taken}
+use Rattle.mcv_core.specs.Events.{IsAnsweredLeg, IsBegun, IsClocked, IsEvent, IsLostLeg, IsLostTooLeg, IsMarked, IsNext, IsRefusedLeg, IsReplay, IsSpooledLeg, IsTaken, IsTurned, IsUnmarked}
+use Rattle.mcv_core.specs.Steps.{IsAnswered, begun, sent, replayed, answered, lost, lost_too, spooled, refused, marked, unmarked, clocked, turned, taken}
 use Rattle.mcv_core.proofs.DeletesStayKept.{answered_by}
 use Rattle.mcv_core.specs.declared.begin.Asked.{Asked}
 use Rattle.mcv_core.specs.declared.fault.CoreFault.{CoreFault}
@@ -80,6 +80,9 @@ module _ (chosen : SymbolValue → List ℕ → ℕ) (v w : CoreView) where
 
   pub loses : (leg : LegId) (r : Result Done CoreFault) → IsEvent (IsLostLeg v leg r) w → IsAnswered chosen v (event.Lost leg) (state_answer r) w
   loses leg r h = answered_by chosen v w _ _ h.move (lost leg r h.move w h.event)
+
+  pub loses_too : (leg : LegId) (r : Result Done CoreFault) → IsEvent (IsLostTooLeg v leg r) w → IsAnswered chosen v (event.LostToo leg) (state_answer r) w
+  loses_too leg r h = answered_by chosen v w _ _ h.move (lost_too leg r h.move w h.event)
 
   pub stores : (leg : LegId) (stored : Stored) (r : Result Done CoreFault) → IsEvent (IsSpooledLeg v leg stored r) w → IsAnswered chosen v (event.Spooled leg stored) (state_answer r) w
   stores leg stored r h = answered_by chosen v w _ _ h.move (spooled leg stored r h.move w h.event)

@@ -11,7 +11,7 @@ use Rattle.mcv_events.specs.Rows as rows
 use Rattle.mcv_events.specs.Rows.{LegRow, awaits, leg_of}
 use Rattle.mcv_core.specs.declared.fault.CoreFault.{CoreFault}
 use Rattle.mcv_core.specs.declared.step.Step.{Step}
-use Rattle.mcv_core.specs.CoreView.{CoreView, Effect, HasEffect, answer_at, answer_in, at_row, does, finished, flies, held, is_record, loss_at, loss_in, refuses, refusing_at, refusing_in, replayed_in, sent_in, spooling_at, spooling_in, stores, with_mark}
+use Rattle.mcv_core.specs.CoreView.{CoreView, Effect, HasEffect, answer_at, answer_in, at_row, does, finished, held, is_record, landing_in, loss_at, loss_in, lost_too_at, refuses, refusing_at, refusing_in, replayed_in, sent_in, spooling_at, spooling_in, stores, with_mark}
 
 -- the effect leads to a view of the same chapter
 abbrev StaysIn : CoreView → Effect → Type 0
@@ -27,35 +27,55 @@ by_test v true e f one other = one
 by_test v false e f one other = other
 
 module _ (v : CoreView) (n : ℕ) (s : LegRow) where
-  sent : (g : ServerFailures → ServerFailures) (y : ReplyValue) → StaysIn v (sent_in (with_mark v s.launch.server.0 g) n y s)
-  sent g y = by_test v (is_counted_delete (leg_of s) && is_error_reply y) (held (with_mark v s.launch.server.0 g) n s) (finished (with_mark v s.launch.server.0 g) n y s) refl refl
+  -- whatever becomes of the marks
+  module _ (marks : ℕ → ServerFailures) where
+    abbrev u : CoreView
+    u = record v { marks = marks }
 
-  replayed : (g : ServerFailures → ServerFailures) (failed : Bool) → StaysIn v (replayed_in (with_mark v s.launch.server.0 g) n failed s)
-  replayed g failed = by_test v failed _ _ refl refl
+    sent : (y : ReplyValue) → StaysIn v (sent_in u n y s)
+    sent y = by_test v (is_counted_delete (leg_of s) && is_error_reply y) (held u n s) (finished u n y s) refl refl
+
+    replayed : (failed : Bool) → StaysIn v (replayed_in u n failed s)
+    replayed failed = by_test v failed _ _ refl refl
+
+  -- the marks, where the server's is changed
+  abbrev marked : (ServerFailures → ServerFailures) → ℕ → ServerFailures
+  marked g = (with_mark v s.launch.server.0 g).marks
 
   answer_stays : (x : ReplyValue) (t : rows.State) → StaysIn v (answer_in v n x s t)
   answer_stays x rows.Waiting = tt
-  answer_stays x rows.Sent = sent answered_mark (counted_as s.launch.op x)
+  answer_stays x rows.Sent = sent (marked answered_mark) (counted_as s.launch.op x)
   answer_stays x rows.Held = tt
-  answer_stays x rows.InSpool = by_test v (flies v n s) _ _ (replayed answered_mark (is_error_reply (counted_as s.launch.op x))) tt
+  answer_stays x rows.InSpool = tt
+  answer_stays x rows.InReplay = replayed (marked answered_mark) (is_error_reply (counted_as s.launch.op x))
 
   loss_stays : (t : rows.State) → StaysIn v (loss_in v n s t)
   loss_stays rows.Waiting = tt
-  loss_stays rows.Sent = sent lost_mark (fixed_value Lost)
+  loss_stays rows.Sent = sent (marked lost_mark) (fixed_value Lost)
   loss_stays rows.Held = tt
-  loss_stays rows.InSpool = by_test v (flies v n s) _ _ (replayed lost_mark true) tt
+  loss_stays rows.InSpool = tt
+  loss_stays rows.InReplay = replayed (marked lost_mark) true
+
+  lost_too_stays : (t : rows.State) → StaysIn v (landing_in v n (fixed_value Lost) s t)
+  lost_too_stays rows.Waiting = tt
+  lost_too_stays rows.Sent = sent v.marks (fixed_value Lost)
+  lost_too_stays rows.Held = tt
+  lost_too_stays rows.InSpool = tt
+  lost_too_stays rows.InReplay = replayed v.marks true
 
   spooling_stays : (seq : ℕ) (its : Bool) (t : rows.State) → StaysIn v (spooling_in v n seq its s t)
   spooling_stays seq its rows.Waiting = tt
   spooling_stays seq its rows.Sent = tt
   spooling_stays seq its rows.Held = by_test v its (stores v n seq s) _ refl tt
   spooling_stays seq its rows.InSpool = tt
+  spooling_stays seq its rows.InReplay = tt
 
   refusing_stays : (t : rows.State) → StaysIn v (refusing_in v n s t)
   refusing_stays rows.Waiting = tt
   refusing_stays rows.Sent = tt
   refusing_stays rows.Held = by_test v (awaits v.rows.calls s s.call) _ _ refl refl
   refusing_stays rows.InSpool = tt
+  refusing_stays rows.InReplay = tt
 
 at_row_stays : (v : CoreView) (f : LegRow → Effect) → ((s : LegRow) → StaysIn v (f s)) → (o : Option LegRow) → StaysIn v (at_row f o)
 at_row_stays v f h None = tt
@@ -67,6 +87,9 @@ module _ (v w : CoreView) (n : ℕ) (r : Result Step CoreFault) where
 
   pub loss_chapter : HasEffect (loss_at v n) v w r → w.chapter ≡ v.chapter
   loss_chapter h = by_effect v w (loss_at v n) r (at_row_stays v (λ s. loss_in v n s s.state) (λ s. loss_stays v n s s.state) (v.rows.legs n)) h
+
+  pub lost_too_chapter : HasEffect (lost_too_at v n) v w r → w.chapter ≡ v.chapter
+  lost_too_chapter h = by_effect v w (lost_too_at v n) r (at_row_stays v (λ s. landing_in v n (fixed_value Lost) s s.state) (λ s. lost_too_stays v n s s.state) (v.rows.legs n)) h
 
   pub spooling_chapter : (seq : ℕ) (text rest : List ℕ) → HasEffect (spooling_at v n seq text rest) v w r → w.chapter ≡ v.chapter
   spooling_chapter seq text rest h =

@@ -73,7 +73,7 @@ spooled_is None s e = no_some e
 spooled_is (Some x) s e = ap (λ (z : LegRow). z.state) (sym (same_some e))
 
 pub opened_cores_keep_deletes : OpenedCoresKeepDeletes
-opened_cores_keep_deletes r records covered =
+opened_cores_keep_deletes limit r records covered =
     let known = known_records r.servers records in
     let since = since_at (breaks_of r) 0 in
     let w = opened since known in
@@ -128,7 +128,7 @@ module _ (chosen : SymbolValue → List ℕ → ℕ) where
       → DeletesAreKept chosen (opened_view r records) events answers w
   deletes_are_kept r records events answers w covered h =
       let q = cores_keep_deletes r (since_at (breaks_of r) 0) (known_records r.servers records) h.moves w.rows covered (moments_have_eras r 0) (steps_run (opened_view r records) w events answers h.moves h.steps).runs in
-      let o = opened_cores_keep_deletes r records covered in
+      let o = opened_cores_keep_deletes 1 r records covered in
       record { moves = h.moves; steps = h.steps; kept = q.0; acknowledged = answered_calls_are_kept r chosen (opened_view r records) w (world_of (opened_view r records).rows) events answers h.moves covered o.is o.live refl h.steps; live = q.1 }
 
   -- one event more

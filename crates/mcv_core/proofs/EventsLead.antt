@@ -12,7 +12,7 @@ use Rattle.mcv_pools.specs.Symbol.{SymbolValue}
 use Rattle.mcv_world.specs.Moves.{Began, Move, Taken}
 use Rattle.mcv_core.specs.CoreView.{CoreView, Does, Effect, HasEffect, does, refuses}
 use Rattle.mcv_core.specs.Events.{Happens, IsBegun, IsClocked, IsNext, IsReplay, IsTaken, IsTurned}
-use Rattle.mcv_core.specs.Steps.{Step, begun, sent, replayed, answered, lost, spooled, refused, marked, unmarked, clocked, turned, taken}
+use Rattle.mcv_core.specs.Steps.{Step, begun, sent, replayed, answered, lost, lost_too, spooled, refused, marked, unmarked, clocked, turned, taken}
 use Rattle.mcv_core.specs.declared.fault.CoreFault.{CoreFault}
 use Rattle.mcv_core.specs.declared.run.Answer.{Answer}
 use Rattle.mcv_core.specs.declared.run.Event.{Event}
@@ -69,6 +69,7 @@ step_leads chosen v w e a m (sent server r n u h) = next_leads v server r n u h
 step_leads chosen v w e a m (replayed server r n u h) = replay_leads v server r n u h
 step_leads chosen v w e a m (answered leg reply r n u h) = leg_leads _ leg _ v r n u h
 step_leads chosen v w e a m (lost leg r n u h) = leg_leads _ leg _ v r n u h
+step_leads chosen v w e a m (lost_too leg r n u h) = leg_leads _ leg _ v r n u h
 step_leads chosen v w e a m (spooled leg stored r n u h) = leg_leads _ leg _ v r n u h
 step_leads chosen v w e a m (refused leg r n u h) = leg_leads _ leg _ v r n u h
 step_leads chosen v w e a m (marked server n u h) = move_leads v u n None h.none h.does

@@ -1,17 +1,16 @@
 -- The clock, and when no call runs and no leg is queued.
-use Rattle.std.proofs.Common.{◌≡◌, ◌&&◌, inl, inr, ℕ, zero, suc, ◌<◌, Bool, true, false, nat_eq, Option, Some, None, option_map, refl, sym, ap, ◌∙◌, subst, arith, true≢false}
+use Rattle.std.proofs.Common.{◌≡◌, inl, inr, ℕ, zero, suc, ◌<◌, true, Option, Some, None, option_map, refl, sym, ap, ◌∙◌, subst, arith, true≢false}
 use Rattle.std.specs.Arc.{arc_value}
 use Rattle.std.specs.Prelude.{IfSome}
-use Rattle.std.proofs.lemmas.Bool.{cases_Bool, cases_lt}
+use Rattle.std.proofs.lemmas.Bool.{cases_lt}
 use Rattle.mcv_base.specs.declared.request.Moment.{Moment}
 use Rattle.mcv_queues.specs.declared.leg.Leg.{Leg}
 use Rattle.mcv_queues.specs.declared.leg.State.{State}
 use Rattle.mcv_queues.specs.declared.leg.State.TheVariants as states
 use Rattle.mcv_queues.specs.declared.roots.Group.TheVariants.{LegsInReplay}
 use Rattle.mcv_queues.specs.Groups.{group_at, group_of, is_group, is_in}
-use Rattle.mcv_queues.specs.Legs.{is_flight, is_in_flight_to}
-use Rattle.mcv_queues.specs.Numbers.{IsLeast, names}
-use Rattle.mcv_queues.specs.Queues.{in_flight, legs}
+use Rattle.mcv_queues.specs.Numbers.{IsLeast}
+use Rattle.mcv_queues.specs.Queues.{legs}
 use Rattle.mcv_route.specs.Eras.{IsEra, breaks_of, since_at}
 use Rattle.mcv_route.specs.Routes.{RoutesValue}
 use Rattle.mcv_world.specs.Moves.{EraBegan}
@@ -102,11 +101,14 @@ none_of_one : (o : Option CallRow) → one o ≡ 0 → o ≡ None
 none_of_one None e = refl
 none_of_one (Some c) e = absurd (omega (arith, e))
 
-stored_of : (t : rows.State) → count_in t ≡ 0 → t ≡ rows.InSpool
-stored_of rows.Waiting e = absurd (omega (arith, e))
-stored_of rows.Sent e = absurd (omega (arith, e))
-stored_of rows.Held e = absurd (omega (arith, e))
-stored_of rows.InSpool e = refl
+-- a leg that isn't queued, and isn't in replay
+stored_of : (t : State) → count_in (state_of t) ≡ 0 → (t ≡ states.InReplay → ⊥) → state_of t ≡ rows.InSpool
+stored_of states.Waiting e grounded = absurd (omega (arith, e))
+stored_of states.Sent e grounded = absurd (omega (arith, e))
+stored_of states.Held e grounded = absurd (omega (arith, e))
+stored_of states.Refused e grounded = absurd (omega (arith, e))
+stored_of states.InSpool e grounded = refl
+stored_of states.InReplay e grounded = absurd (grounded refl)
 
 -- ---- at rest
 
@@ -118,41 +120,25 @@ module _ (d : Dispatcher) where
         | inr high ↦ d.sound.core.calls_below k high
       ]
 
-  all_stored : d.counts.queued ≡ 0 → (n : ℕ) (s : LegRow) → (core_view d).rows.legs n ≡ Some s → s.state ≡ rows.InSpool
-  all_stored e n s at =
+  -- none is in replay
+  grounded : IsLeast (is_in (legs d.queues) LegsInReplay) None → (n : ℕ) (l : Leg Errand) → legs d.queues n ≡ Some l → l.state ≡ states.InReplay → ⊥
+  grounded least n l at is = true≢false (sym (least.least n (ap (λ v. is_group (group_of v) LegsInReplay) at ∙ ap (λ t. is_group (group_at l.server.0 t) LegsInReplay) is)))
+
+  all_stored : d.counts.queued ≡ 0 → IsLeast (is_in (legs d.queues) LegsInReplay) None → (n : ℕ) (s : LegRow) → (core_view d).rows.legs n ≡ Some s → s.state ≡ rows.InSpool
+  all_stored e least n s at =
       elim (cases_lt n d.next_leg) [
-        | inl low ↦ stored_of s.state (sym (ap count_of at) ∙ sum_zero count_of (core_view d).rows.legs d.next_leg n (sym d.sound.queued_is ∙ e) low)
+        | inl low ↦ by_leg (legs d.queues n) refl at (sym (ap count_of at) ∙ sum_zero count_of (core_view d).rows.legs d.next_leg n (sym d.sound.queued_is ∙ e) low)
         | inr high ↦ no_some (sym (d.sound.core.legs_below n high) ∙ at)
       ]
-
-  -- what is in flight is in replay
-  replays : (s n : ℕ) (o : Option (Leg Errand)) → legs d.queues n ≡ o → ((l : Leg Errand) → legs d.queues n ≡ Some l → state_of l.state ≡ rows.InSpool) → is_in_flight_to s o ≡ true → is_in (legs d.queues) LegsInReplay n ≡ true
-  replays s n None at stored e = absurd (true≢false (sym e))
-  replays s n (Some l) at stored e = ap (λ v. is_group (group_of v) LegsInReplay) at ∙ by_state l.state (stored l at) (second (nat_eq l.server.0 s) (is_flight l.state) e)
     where
-      second : (a b : Bool) → (a && b) ≡ true → b ≡ true
-      second true b h = h
-      second false b h = absurd (true≢false (sym h))
-
-      by_state : (t : State) → state_of t ≡ rows.InSpool → is_flight t ≡ true → is_group (group_at l.server.0 t) LegsInReplay ≡ true
-      by_state states.Waiting stored flies = absurd cc
-      by_state states.Sent stored flies = absurd cc
-      by_state states.Held stored flies = absurd cc
-      by_state states.Refused stored flies = absurd cc
-      by_state states.InSpool stored flies = absurd (true≢false (sym flies))
-      by_state states.InReplay stored flies = refl
+      by_leg : (o : Option (Leg Errand)) → legs d.queues n ≡ o → option_map (row_by state_of) o ≡ Some s → count_in s.state ≡ 0 → s.state ≡ rows.InSpool
+      by_leg None is there none = no_some there
+      by_leg (Some l) is there none =
+          let same = ap (λ (z : LegRow). z.state) (same_some there) in
+          sym same ∙ stored_of l.state (ap count_in same ∙ none) (grounded least n l is)
 
   pub at_rest : d.counts.running ≡ 0 → d.counts.queued ≡ 0 → IsLeast (is_in (legs d.queues) LegsInReplay) None → IsAtRest (core_view d)
-  at_rest a b least = record {
-    calls = no_calls a;
-    legs = all_stored b;
-    flights = λ s n. elim (cases_Bool (names (in_flight d.queues s) n)) [
-      | inl t ↦
-          let among = replays s n (legs d.queues n) refl (λ l at. all_stored b n (row_by state_of l) (ap (option_map (row_by state_of)) at)) (sym (d.queues.sound.flying s n) ∙ t) in
-          absurd (true≢false (sym (least.least n among)))
-      | inr f ↦ f
-    ];
-  }
+  at_rest a b least = record { calls = no_calls a; legs = all_stored b least }
 
   pub rest_runs : IsAtRest (core_view d) → d.counts.running ≡ 0
   rest_runs h = d.sound.running_is ∙ zero_sum one (call_rows (calls_at d.calls)) d.next_call (λ k. ap one (h.calls k))
@@ -164,11 +150,12 @@ module _ (d : Dispatcher) where
       by_row n None at = refl
       by_row n (Some s) at = ap count_in (h.legs n s at)
 
-  in_replay_flies : (o : Option (Leg Errand)) → is_group (group_of o) LegsInReplay ≡ true → (s : ℕ) × (is_in_flight_to s o ≡ true)
-  in_replay_flies None e = absurd (true≢false (sym e))
-  in_replay_flies (Some l) e = (l.server.0, let same : nat_eq l.server.0 l.server.0 ≡ true = grind arith in ap (λ b. b && is_flight l.state) same ∙ by_state l.state e)
+  -- a leg in replay isn't one that is in the spool alone
+  replayed_row : (n : ℕ) (o : Option (Leg Errand)) → legs d.queues n ≡ o → is_group (group_of o) LegsInReplay ≡ true → (s : LegRow) × ((core_view d).rows.legs n ≡ Some s) × (s.state ≡ rows.InReplay)
+  replayed_row n None at e = absurd (true≢false (sym e))
+  replayed_row n (Some l) at e = (row_by state_of l, ap (option_map (row_by state_of)) at, by_state l.state e)
     where
-      by_state : (t : State) → is_group (group_at l.server.0 t) LegsInReplay ≡ true → is_flight t ≡ true
+      by_state : (t : State) → is_group (group_at l.server.0 t) LegsInReplay ≡ true → state_of t ≡ rows.InReplay
       by_state states.Waiting e = absurd (true≢false (sym e))
       by_state states.Sent e = absurd (true≢false (sym e))
       by_state states.Held e = absurd (true≢false (sym e))
@@ -179,8 +166,9 @@ module _ (d : Dispatcher) where
   pub rest_replays : IsAtRest (core_view d) → (o : Option ℕ) → IsLeast (is_in (legs d.queues) LegsInReplay) o → o ≡ None
   rest_replays h None least = refl
   rest_replays h (Some n) least =
-      let f = in_replay_flies (legs d.queues n) (least.there n refl) in
-      absurd (true≢false (sym (d.queues.sound.flying f.0 n ∙ f.1) ∙ h.flights f.0 n))
+      let f = replayed_row n (legs d.queues n) refl (least.there n refl) in
+      let both : rows.InReplay ≡ rows.InSpool = sym f.2 ∙ h.legs n f.0 f.1 in
+      absurd cc
 
   pub rest_is_quiet : IsAtRest (core_view d) → IsQuiet (core_view d)
   rest_is_quiet h =

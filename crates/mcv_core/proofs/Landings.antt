@@ -32,14 +32,14 @@ use Rattle.mcv_core.specs.declared.step.Change.TheVariants as changes
 use Rattle.mcv_core.specs.declared.step.LegState.TheVariants as leg_states
 use Rattle.mcv_core.specs.declared.step.Step.{Step}
 use Rattle.mcv_core.specs.Calls.{calls_at}
-use Rattle.mcv_core.specs.CoreView.{CoreView, Effect, HasDone, HasEffect, answer_at, answer_in, at_row, does, flies, is_record, landing_at, landing_in, loss_at, loss_in, refused, refuses, refusing_at, refusing_in, replayed_in, sent_in, spooling_at, spooling_in, step_to, stores, with_mark}
+use Rattle.mcv_core.specs.CoreView.{CoreView, Effect, HasDone, HasEffect, answer_at, answer_in, at_row, does, is_record, landing_at, landing_in, loss_at, loss_in, lost_too_at, refused, refuses, refusing_at, refusing_in, replayed_in, sent_in, spooling_at, spooling_in, step_to, stores, with_mark}
 use Rattle.mcv_core.specs.Errands.{launch_of}
 use Rattle.mcv_core.specs.Facts.{counts_in, facts_of, records_in, state_in}
 use Rattle.mcv_core.specs.Rows.{awaiting_state, call_of, call_row, call_rows, row_by, state_of}
 use Rattle.mcv_core.specs.Settling.{is_gone, settled_row}
 use Rattle.mcv_core.specs.View.{CanSettle, core_view, has_settled}
 use Rattle.mcv_core.proofs.SpoolNumbers
-use Rattle.mcv_core.proofs.LegViews.{flies_by_state, row_stays, stored_rows, there, view_with}
+use Rattle.mcv_core.proofs.LegViews.{row_stays, stored_rows, there, view_with}
 
 -- ---- the leg of these facts
 
@@ -121,9 +121,7 @@ module _ (d : Dispatcher) (n : ℕ) (l : Leg Errand) (at : legs d.queues n ≡ S
   answers_as states.Held is f x = absurd (true≢false (sym f))
   answers_as states.Refused is f x = absurd (true≢false (sym f))
   answers_as states.InSpool is f x = absurd (true≢false (sym f))
-  answers_as states.InReplay is f x =
-      ap (λ b. cond b (replayed_in (with_mark (core_view d) (launch_of l.content).server.0 answered_mark) n (is_error_reply (counted_as (launch_of l.content).op x)) (row_by state_of l)) (refuses NoSuchLeg))
-      (flies_by_state d n l at ∙ ap is_flight is)
+  answers_as states.InReplay is f x = refl
 
   loses_as : (t : State) → l.state ≡ t → is_flight t ≡ true → loss_in (core_view d) n (row_by state_of l) (state_of t)
       ≡ landing_in (with_mark (core_view d) (launch_of l.content).server.0 lost_mark) n (fixed_value Lost) (row_by state_of l) (state_of t)
@@ -132,8 +130,7 @@ module _ (d : Dispatcher) (n : ℕ) (l : Leg Errand) (at : legs d.queues n ≡ S
   loses_as states.Held is f = absurd (true≢false (sym f))
   loses_as states.Refused is f = absurd (true≢false (sym f))
   loses_as states.InSpool is f = absurd (true≢false (sym f))
-  loses_as states.InReplay is f =
-      ap (λ b. cond b (replayed_in (with_mark (core_view d) (launch_of l.content).server.0 lost_mark) n true (row_by state_of l)) (refuses NoSuchLeg)) (flies_by_state d n l at ∙ ap is_flight is)
+  loses_as states.InReplay is f = refl
 
   pub answered_effect : is_flight l.state ≡ true → (x y : ReplyValue) → y ≡ counted_as (launch_of l.content).op x → (mid new : CoreView) (step : Step) → mid ≡ with_mark (core_view d) (launch_of l.content).server.0 answered_mark
       → HasDone (landing_at mid n y) new step → HasEffect (answer_at (core_view d) n x) (core_view d) new (Ok step)
@@ -145,28 +142,22 @@ module _ (d : Dispatcher) (n : ℕ) (l : Leg Errand) (at : legs d.queues n ≡ S
       ∙ sym (at_its_row (λ z. landing_in (with_mark (core_view d) (launch_of l.content).server.0 answered_mark) n (counted_as (launch_of l.content).op x) z z.state)) in
       subst (λ e. HasEffect e (core_view d) new (Ok step)) (sym same) (effect_of (landing_at (with_mark (core_view d) (launch_of l.content).server.0 answered_mark) n (counted_as (launch_of l.content).op x)) (core_view d) new step here)
 
-  pub loss_effect : is_flight l.state ≡ true → (y : ReplyValue) → y ≡ fixed_value Lost → (mid new : CoreView) (step : Step) → mid ≡ with_mark (core_view d) (launch_of l.content).server.0 lost_mark
-      → HasDone (landing_at mid n y) new step → HasEffect (loss_at (core_view d) n) (core_view d) new (Ok step)
-  loss_effect f y y_is mid new step mid_is h =
-      let here : HasDone (landing_at (with_mark (core_view d) (launch_of l.content).server.0 lost_mark) n (fixed_value Lost)) new step =
-      subst (λ u. HasDone (landing_at u n (fixed_value Lost)) new step) mid_is (subst (λ z. HasDone (landing_at mid n z) new step) y_is h) in
-      let same : loss_at (core_view d) n ≡ landing_at (with_mark (core_view d) (launch_of l.content).server.0 lost_mark) n (fixed_value Lost) =
+  pub loss_effect : is_flight l.state ≡ true → (mid new : CoreView) (step : Step) → mid ≡ with_mark (core_view d) (launch_of l.content).server.0 lost_mark → HasDone (lost_too_at mid n) new step
+      → HasEffect (loss_at (core_view d) n) (core_view d) new (Ok step)
+  loss_effect f mid new step mid_is h =
+      let here : HasDone (lost_too_at (with_mark (core_view d) (launch_of l.content).server.0 lost_mark) n) new step = subst (λ u. HasDone (lost_too_at u n) new step) mid_is h in
+      let same : loss_at (core_view d) n ≡ lost_too_at (with_mark (core_view d) (launch_of l.content).server.0 lost_mark) n =
       at_its_row (λ z. loss_in (core_view d) n z z.state) ∙ loses_as l.state refl f ∙ sym (at_its_row (λ z. landing_in (with_mark (core_view d) (launch_of l.content).server.0 lost_mark) n (fixed_value Lost) z z.state)) in
-      subst (λ e. HasEffect e (core_view d) new (Ok step)) (sym same) (effect_of (landing_at (with_mark (core_view d) (launch_of l.content).server.0 lost_mark) n (fixed_value Lost)) (core_view d) new step here)
+      subst (λ e. HasEffect e (core_view d) new (Ok step)) (sym same) (effect_of (lost_too_at (with_mark (core_view d) (launch_of l.content).server.0 lost_mark) n) (core_view d) new step here)
 
   -- ---- a leg that isn't in flight
-
-  grounded : is_flight l.state ≡ false → flies (core_view d) n (row_by state_of l) ≡ false
-  grounded f = flies_by_state d n l at ∙ f
 
   answer_grounded : (t : State) → l.state ≡ t → is_flight t ≡ false → (x : ReplyValue) → answer_in (core_view d) n x (row_by state_of l) (state_of t) ≡ refuses NoSuchLeg
   answer_grounded states.Waiting is f x = refl
   answer_grounded states.Sent is f x = absurd (true≢false f)
   answer_grounded states.Held is f x = refl
   answer_grounded states.Refused is f x = refl
-  answer_grounded states.InSpool is f x =
-      ap (λ b. cond b (replayed_in (with_mark (core_view d) (launch_of l.content).server.0 answered_mark) n (is_error_reply (counted_as (launch_of l.content).op x)) (row_by state_of l)) (refuses NoSuchLeg))
-      (grounded (ap is_flight is))
+  answer_grounded states.InSpool is f x = refl
   answer_grounded states.InReplay is f x = absurd (true≢false f)
 
   loss_grounded : (t : State) → l.state ≡ t → is_flight t ≡ false → loss_in (core_view d) n (row_by state_of l) (state_of t) ≡ refuses NoSuchLeg
@@ -174,9 +165,16 @@ module _ (d : Dispatcher) (n : ℕ) (l : Leg Errand) (at : legs d.queues n ≡ S
   loss_grounded states.Sent is f = absurd (true≢false f)
   loss_grounded states.Held is f = refl
   loss_grounded states.Refused is f = refl
-  loss_grounded states.InSpool is f =
-      ap (λ b. cond b (replayed_in (with_mark (core_view d) (launch_of l.content).server.0 lost_mark) n true (row_by state_of l)) (refuses NoSuchLeg)) (grounded (ap is_flight is))
+  loss_grounded states.InSpool is f = refl
   loss_grounded states.InReplay is f = absurd (true≢false f)
+
+  landing_grounded : (t : State) → l.state ≡ t → is_flight t ≡ false → (y : ReplyValue) → landing_in (core_view d) n y (row_by state_of l) (state_of t) ≡ refuses NoSuchLeg
+  landing_grounded states.Waiting is f y = refl
+  landing_grounded states.Sent is f y = absurd (true≢false f)
+  landing_grounded states.Held is f y = refl
+  landing_grounded states.Refused is f y = refl
+  landing_grounded states.InSpool is f y = refl
+  landing_grounded states.InReplay is f y = absurd (true≢false f)
 
   -- ---- its call awaits it
 
@@ -256,6 +254,13 @@ loss_refused d n fault f is = refusal (loss_at (core_view d) n) (core_view d) fa
     by_leg None at g = ap (at_row (λ z. loss_in (core_view d) n z z.state)) (ap (option_map (row_by state_of)) at)
     by_leg (Some l) at g = at_its_row d n l at (λ z. loss_in (core_view d) n z z.state) ∙ loss_grounded d n l at l.state refl g
 
+pub lost_too_refused : (d : Dispatcher) (n : ℕ) (fault : CoreFault) → is_in_flight (legs d.queues n) ≡ false → fault ≡ NoSuchLeg → HasEffect (lost_too_at (core_view d) n) (core_view d) (core_view d) (Err fault)
+lost_too_refused d n fault f is = refusal (lost_too_at (core_view d) n) (core_view d) fault (by_leg (legs d.queues n) refl f) is
+  where
+    by_leg : (o : Option (Leg Errand)) → legs d.queues n ≡ o → is_in_flight o ≡ false → lost_too_at (core_view d) n ≡ refuses NoSuchLeg
+    by_leg None at g = ap (at_row (λ z. landing_in (core_view d) n (fixed_value Lost) z z.state)) (ap (option_map (row_by state_of)) at)
+    by_leg (Some l) at g = at_its_row d n l at (λ z. landing_in (core_view d) n (fixed_value Lost) z z.state) ∙ landing_grounded d n l at l.state refl g (fixed_value Lost)
+
 -- whether it is held, refused or not
 abbrev pub holds : State → Bool
 holds states.Waiting = false
@@ -302,6 +307,7 @@ module _ (d : Dispatcher) (n : ℕ) (l : Leg Errand) (at : legs d.queues n ≡ S
   not_spooled seq its rows.Sent no_hold = refl
   not_spooled seq its rows.Held no_hold = absurd (no_hold refl)
   not_spooled seq its rows.InSpool no_hold = refl
+  not_spooled seq its rows.InReplay no_hold = refl
 
   pub spooling_not_held : (state_of l.state ≡ rows.Held → ⊥) → (seq : ℕ) (text rest : List ℕ) (fault : CoreFault) → fault ≡ NoSuchLeg → HasEffect (spooling_at (core_view d) n seq text rest) (core_view d) (core_view d) (Err fault)
   spooling_not_held no_hold seq text rest fault is =
@@ -312,6 +318,7 @@ module _ (d : Dispatcher) (n : ℕ) (l : Leg Errand) (at : legs d.queues n ≡ S
   not_its seq rows.Sent = refl
   not_its seq rows.Held = refl
   not_its seq rows.InSpool = refl
+  not_its seq rows.InReplay = refl
 
   spooling_other : (seq : ℕ) (text rest : List ℕ) → is_one ((core_view d).rows.legs n) (is_record (core_view d) n text rest) ≡ false → spooling_at (core_view d) n seq text rest ≡ refuses NoSuchLeg
   spooling_other seq text rest e =
@@ -339,6 +346,7 @@ module _ (d : Dispatcher) (n : ℕ) (l : Leg Errand) (at : legs d.queues n ≡ S
   not_refused rows.Sent no_hold = refl
   not_refused rows.Held no_hold = absurd (no_hold refl)
   not_refused rows.InSpool no_hold = refl
+  not_refused rows.InReplay no_hold = refl
 
   pub refusing_not_held : (state_of l.state ≡ rows.Held → ⊥) → (fault : CoreFault) → fault ≡ NoSuchLeg → HasEffect (refusing_at (core_view d) n) (core_view d) (core_view d) (Err fault)
   refusing_not_held no_hold fault is = refusal (refusing_at (core_view d) n) (core_view d) fault (refusing_row ∙ not_refused (state_of l.state) no_hold) is

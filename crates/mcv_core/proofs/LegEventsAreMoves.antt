@@ -8,10 +8,10 @@ use Rattle.mcv_queues.specs.Marks.{answered_mark, lost_mark}
 use Rattle.mcv_world.specs.World.{is_counted_delete}
 use Rattle.mcv_world.specs.Moves.{counted_as, has_no_outcome, is_error_reply, is_one}
 use Rattle.mcv_events.specs.Rows as rows
-use Rattle.mcv_events.specs.Rows.{CallRow, IsCore, LegRow, awaits, leg_of, leg_state, with_leg_row}
+use Rattle.mcv_events.specs.Rows.{CallRow, IsCore, LegRow, awaits, is_unanswered, leg_of, leg_state, with_leg_row}
 use Rattle.mcv_events.proofs.EventsAreMoves.{answered_moves, performed_moves, refused_moves, spooled_moves, states_are_no_moves, states_keep_cores}
 use Rattle.mcv_core.specs.declared.step.Step.{Step}
-use Rattle.mcv_core.specs.CoreView.{CoreView, Does, Effect, HasEffect, answer_at, answer_in, at_row, change_move, does, finished, flies, held, is_record, loss_at, loss_in, refuses, refusing_at, refusing_in, replayed_in, sent_in, spooling_at, spooling_in, with_mark}
+use Rattle.mcv_core.specs.CoreView.{CoreView, Does, Effect, HasEffect, answer_at, answer_in, at_row, change_move, does, finished, held, is_record, landing_in, loss_at, loss_in, lost_too_at, refuses, refusing_at, refusing_in, replayed_in, sent_in, spooling_at, spooling_in, with_mark}
 
 -- the effect is the move that it names, where the reply was this
 abbrev IsMove : CoreView → ℕ → ReplyValue → Effect → Type 0
@@ -30,41 +30,66 @@ by_test v n x true e f one other = one refl
 by_test v n x false e f one other = other refl
 
 module _ (v : CoreView) (core : IsCore v.routes v.rows) (n : ℕ) (s : LegRow) (at : v.rows.legs n ≡ Some s) where
-  sent : (g : ServerFailures → ServerFailures) (x : ReplyValue) → s.state ≡ rows.Sent → IsMove v n x (sent_in (with_mark v s.launch.server.0 g) n (counted_as s.launch.op x) s)
-  sent g x is =
-      by_test v n x (is_counted_delete (leg_of s) && is_error_reply (counted_as s.launch.op x)) (held (with_mark v s.launch.server.0 g) n s) (finished (with_mark v s.launch.server.0 g) n (counted_as s.launch.op x) s)
-      (λ e. record {
-        world = states_are_no_moves v.rows n s rows.Held at (sym (ap leg_state is));
-        core = states_keep_cores v.routes v.rows n s rows.Held core at (λ t. absurd (true≢false (sym t))) (λ t. both_first (is_counted_delete (leg_of s)) _ e);
-        routes = refl;
-      })
-      (λ e. record { allowed = tt; moves = answered_moves v.routes v.rows n s x core at is e; routes = refl })
-    where
-      both_first : (b c : Bool) → (b && c) ≡ true → b ≡ true
-      both_first true c e = refl
-      both_first false c e = absurd (true≢false (sym e))
+  -- whatever becomes of the marks
+  module _ (marks : ℕ → ServerFailures) where
+    abbrev u : CoreView
+    u = record v { marks = marks }
 
-  replayed : (g : ServerFailures → ServerFailures) (x : ReplyValue) (failed : Bool) → s.state ≡ rows.InSpool → IsMove v n x (replayed_in (with_mark v s.launch.server.0 g) n failed s)
-  replayed g x failed is =
-      by_test v n x failed _ _ (λ e. record { world = refl; core = core; routes = refl }) (λ e. record { allowed = tt; moves = performed_moves v.routes v.rows n s core at is; routes = refl })
+    sent : (x : ReplyValue) → s.state ≡ rows.Sent → IsMove v n x (sent_in u n (counted_as s.launch.op x) s)
+    sent x is =
+        by_test v n x (is_counted_delete (leg_of s) && is_error_reply (counted_as s.launch.op x)) (held u n s) (finished u n (counted_as s.launch.op x) s)
+        (λ e. record {
+          world = states_are_no_moves v.rows n s rows.Held at (sym (ap leg_state is));
+          core = states_keep_cores v.routes v.rows n s rows.Held core at (λ t. absurd (true≢false (sym t))) (λ t. both_first (is_counted_delete (leg_of s)) _ e);
+          routes = refl;
+        })
+        (λ e. record { allowed = tt; moves = answered_moves v.routes v.rows n s x core at is e; routes = refl })
+      where
+        both_first : (b c : Bool) → (b && c) ≡ true → b ≡ true
+        both_first true c e = refl
+        both_first false c e = absurd (true≢false (sym e))
+
+    replayed : (x : ReplyValue) (failed : Bool) → s.state ≡ rows.InReplay → IsMove v n x (replayed_in u n failed s)
+    replayed x failed is =
+        by_test v n x failed _ _
+        (λ e. record {
+          world = states_are_no_moves v.rows n s rows.InSpool at (sym (ap leg_state is));
+          core = states_keep_cores v.routes v.rows n s rows.InSpool core at (λ t. absurd (true≢false (sym t))) (λ t. core.counted n s at (ap is_unanswered is));
+          routes = refl;
+        })
+        (λ e. record { allowed = tt; moves = performed_moves v.routes v.rows n s core at (ap leg_state is); routes = refl })
+
+  -- the marks, where the server's is changed
+  abbrev marked : (ServerFailures → ServerFailures) → ℕ → ServerFailures
+  marked g = (with_mark v s.launch.server.0 g).marks
 
   answer_moves : (x : ReplyValue) (t : rows.State) → s.state ≡ t → IsMove v n x (answer_in v n x s t)
   answer_moves x rows.Waiting is = tt
-  answer_moves x rows.Sent is = sent answered_mark x is
+  answer_moves x rows.Sent is = sent (marked answered_mark) x is
   answer_moves x rows.Held is = tt
-  answer_moves x rows.InSpool is = by_test v n x (flies v n s) _ _ (λ e. replayed answered_mark x (is_error_reply (counted_as s.launch.op x)) is) (λ e. tt)
+  answer_moves x rows.InSpool is = tt
+  answer_moves x rows.InReplay is = replayed (marked answered_mark) x (is_error_reply (counted_as s.launch.op x)) is
 
   loss_moves : (t : rows.State) → s.state ≡ t → IsMove v n (fixed_value Lost) (loss_in v n s t)
   loss_moves rows.Waiting is = tt
-  loss_moves rows.Sent is = sent lost_mark (fixed_value Lost) is
+  loss_moves rows.Sent is = sent (marked lost_mark) (fixed_value Lost) is
   loss_moves rows.Held is = tt
-  loss_moves rows.InSpool is = by_test v n (fixed_value Lost) (flies v n s) _ _ (λ e. replayed lost_mark (fixed_value Lost) true is) (λ e. tt)
+  loss_moves rows.InSpool is = tt
+  loss_moves rows.InReplay is = replayed (marked lost_mark) (fixed_value Lost) true is
+
+  lost_too_moves : (t : rows.State) → s.state ≡ t → IsMove v n (fixed_value Lost) (landing_in v n (fixed_value Lost) s t)
+  lost_too_moves rows.Waiting is = tt
+  lost_too_moves rows.Sent is = sent v.marks (fixed_value Lost) is
+  lost_too_moves rows.Held is = tt
+  lost_too_moves rows.InSpool is = tt
+  lost_too_moves rows.InReplay is = replayed v.marks (fixed_value Lost) true is
 
   spooling_moves : (seq : ℕ) (its : Bool) (t : rows.State) → s.state ≡ t → IsMove v n not_found (spooling_in v n seq its s t)
   spooling_moves seq its rows.Waiting is = tt
   spooling_moves seq its rows.Sent is = tt
   spooling_moves seq its rows.Held is = by_test v n not_found its _ _ (λ e. record { allowed = tt; moves = spooled_moves v.routes v.rows n s core at is; routes = refl }) (λ e. tt)
   spooling_moves seq its rows.InSpool is = tt
+  spooling_moves seq its rows.InReplay is = tt
 
   awaited_by : (o : Option ℕ) → s.call ≡ o → awaits v.rows.calls s o ≡ true → (k : ℕ) × (c : CallRow) × (s.call ≡ Some k) × (v.rows.calls k ≡ Some c) × (has_no_outcome (leg_of s) c.call ≡ true)
   awaited_by None is e = absurd (true≢false (sym e))
@@ -82,6 +107,7 @@ module _ (v : CoreView) (core : IsCore v.routes v.rows) (n : ℕ) (s : LegRow) (
       (λ e. let a = awaited_by s.call refl e in record { allowed = tt; moves = refused_moves v.routes v.rows n s a.0 a.1 core at is a.2 a.3 a.4; routes = refl })
       (λ e. record { world = refl; core = core; routes = refl })
   refusing_moves rows.InSpool is = tt
+  refusing_moves rows.InReplay is = tt
 
 pub answer_does : (v new : CoreView) (n : ℕ) (x : ReplyValue) (step : Step) → IsCore v.routes v.rows → HasEffect (answer_at v n x) v new (Ok step) → Does v new (change_move n x step.change)
 answer_does v new n x step core h = does_of v new n x step (answer_at v n x) (by_row (v.rows.legs n) refl) h
@@ -96,6 +122,13 @@ loss_does v new n step core h = does_of v new n (fixed_value Lost) step (loss_at
     by_row : (o : Option LegRow) → v.rows.legs n ≡ o → IsMove v n (fixed_value Lost) (at_row (λ s. loss_in v n s s.state) o)
     by_row None e = tt
     by_row (Some s) e = loss_moves v core n s e s.state refl
+
+pub lost_too_does : (v new : CoreView) (n : ℕ) (step : Step) → IsCore v.routes v.rows → HasEffect (lost_too_at v n) v new (Ok step) → Does v new (change_move n (fixed_value Lost) step.change)
+lost_too_does v new n step core h = does_of v new n (fixed_value Lost) step (lost_too_at v n) (by_row (v.rows.legs n) refl) h
+  where
+    by_row : (o : Option LegRow) → v.rows.legs n ≡ o → IsMove v n (fixed_value Lost) (at_row (λ s. landing_in v n (fixed_value Lost) s s.state) o)
+    by_row None e = tt
+    by_row (Some s) e = lost_too_moves v core n s e s.state refl
 
 pub spooling_does : (v new : CoreView) (n seq : ℕ) (text rest : List ℕ) (step : Step) → IsCore v.routes v.rows → HasEffect (spooling_at v n seq text rest) v new (Ok step) → Does v new (change_move n not_found step.change)
 spooling_does v new n seq text rest step core h = does_of v new n not_found step (spooling_at v n seq text rest) (by_row (v.rows.legs n) refl) h

@@ -1,5 +1,5 @@
 -- What becomes of the dispatcher and its view where a leg changes its state, or goes.
-use Rattle.std.proofs.Common.{◌≡◌, ◌&&◌, cond, inl, inr, ℕ, ◌+◌, ◌<◌, ◌≤◌, ◌^◌, Bool, true, false, nat_eq, Option, Some, None, option_map, refl, sym, ap, ◌∙◌, subst, arith, true≢false}
+use Rattle.std.proofs.Common.{◌≡◌, ◌&&◌, cond, inl, inr, ℕ, ◌+◌, ◌-◌, ◌<◌, ◌≤◌, ◌^◌, Bool, true, false, nat_eq, Option, Some, None, option_map, refl, sym, ap, ◌∙◌, subst, arith, true≢false}
 use Rattle.std.specs.Arc.{arc_value}
 use Rattle.std.proofs.Math.Path.{fun_ext}
 use Rattle.std.proofs.lemmas.Bool.{cases_eq}
@@ -8,7 +8,6 @@ use Rattle.mcv_queues.specs.declared.leg.State.{State}
 use Rattle.mcv_queues.specs.declared.leg.State.TheVariants as states
 use Rattle.mcv_queues.specs.declared.queues.Queues.{Queues}
 use Rattle.mcv_queues.specs.Legs.{in_state as put_state, is_flight, is_in_flight_to, stored_as, with_state, with_stored}
-use Rattle.mcv_queues.specs.Numbers.{names}
 use Rattle.mcv_queues.specs.Queues.{in_flight, legs, room, servers}
 use Rattle.mcv_world.specs.World.{is_counted_delete, put}
 use Rattle.mcv_world.proofs.Numbers.{put_same, put_other}
@@ -21,6 +20,7 @@ use Rattle.mcv_core.specs.declared.dispatcher.Dispatcher.{Dispatcher}
 use Rattle.mcv_core.specs.declared.errand.Errand.{Errand}
 use Rattle.mcv_core.specs.Calls.{calls_at}
 use Rattle.mcv_core.specs.CoreView.{CoreView, landed}
+use Rattle.mcv_core.specs.Flights.{one_less}
 use Rattle.mcv_core.specs.Errands.{launch_of}
 use Rattle.mcv_core.specs.Facts.{records_in}
 use Rattle.mcv_core.specs.Rows.{awaiting_state, row_by, rows_of, state_of}
@@ -59,25 +59,17 @@ module _ (d : Dispatcher) (n : ℕ) (l : Leg Errand) (at : legs d.queues n ≡ S
 
   -- ---- flights
 
-  pub flights_landed : is_flight l.state ≡ true → (flights2 : ℕ → Option ℕ) → ((m : ℕ) → flights2 m ≡ cond (is_in_flight_to m (legs d.queues n)) None (in_flight d.queues m))
-      → flights2 ≡ put (in_flight d.queues) (launch_of l.content).server.0 None
+  pub flights_landed : is_flight l.state ≡ true → (flights2 : ℕ → ℕ) → ((m : ℕ) → flights2 m ≡ cond (is_in_flight_to m (legs d.queues n)) (in_flight d.queues m - 1) (in_flight d.queues m))
+      → flights2 ≡ one_less (in_flight d.queues) (launch_of l.content).server.0
   flights_landed flies flights2 e =
-      fun_ext (λ m. e m ∙ ap (λ o. cond (is_in_flight_to m o) None (in_flight d.queues m)) at ∙ ap (λ b. cond (nat_eq l.server.0 m && b) None (in_flight d.queues m)) flies
-      ∙ ap (λ b. cond b None (in_flight d.queues m)) (and_true (nat_eq l.server.0 m)) ∙ ap (λ v. cond (nat_eq v.0 m) None (in_flight d.queues m)) server_is)
+      fun_ext (λ m. e m ∙ ap (λ o. cond (is_in_flight_to m o) (in_flight d.queues m - 1) (in_flight d.queues m)) at ∙ ap (λ b. cond (nat_eq l.server.0 m && b) (in_flight d.queues m - 1) (in_flight d.queues m)) flies
+      ∙ ap (λ b. cond b (in_flight d.queues m - 1) (in_flight d.queues m)) (and_true (nat_eq l.server.0 m)) ∙ ap (λ v. cond (nat_eq v.0 m) (in_flight d.queues m - 1) (in_flight d.queues m)) server_is)
 
-  pub flights_stay : is_flight l.state ≡ false → (flights2 : ℕ → Option ℕ) → ((m : ℕ) → flights2 m ≡ cond (is_in_flight_to m (legs d.queues n)) None (in_flight d.queues m)) → flights2 ≡ in_flight d.queues
+  pub flights_stay : is_flight l.state ≡ false → (flights2 : ℕ → ℕ) → ((m : ℕ) → flights2 m ≡ cond (is_in_flight_to m (legs d.queues n)) (in_flight d.queues m - 1) (in_flight d.queues m))
+      → flights2 ≡ in_flight d.queues
   flights_stay flies flights2 e =
-      fun_ext (λ m. e m ∙ ap (λ o. cond (is_in_flight_to m o) None (in_flight d.queues m)) at ∙ ap (λ b. cond (nat_eq l.server.0 m && b) None (in_flight d.queues m)) flies
-      ∙ ap (λ b. cond b None (in_flight d.queues m)) (and_false (nat_eq l.server.0 m)))
-
-  -- it is in flight to its server exactly where its state says so
-  pub flies_by_state : names (in_flight d.queues (launch_of l.content).server.0) n ≡ is_flight l.state
-  flies_by_state =
-      d.queues.sound.flying (launch_of l.content).server.0 n ∙ ap (is_in_flight_to (launch_of l.content).server.0) at
-      ∙ ap (λ v. nat_eq v.0 (launch_of l.content).server.0 && is_flight l.state) server_is ∙ same_number (launch_of l.content).server.0
-    where
-      same_number : (m : ℕ) → (nat_eq m m && is_flight l.state) ≡ is_flight l.state
-      same_number m = let e : nat_eq m m ≡ true = grind arith in ap (λ b. b && is_flight l.state) e
+      fun_ext (λ m. e m ∙ ap (λ o. cond (is_in_flight_to m o) (in_flight d.queues m - 1) (in_flight d.queues m)) at ∙ ap (λ b. cond (nat_eq l.server.0 m && b) (in_flight d.queues m - 1) (in_flight d.queues m)) flies
+      ∙ ap (λ b. cond b (in_flight d.queues m - 1) (in_flight d.queues m)) (and_false (nat_eq l.server.0 m)))
 
   -- ---- a state changes
 
@@ -94,11 +86,11 @@ module _ (d : Dispatcher) (n : ℕ) (l : Leg Errand) (at : legs d.queues n ≡ S
   pub records_stay : (t : State) (q : Queues Errand) → legs q ≡ with_state (legs d.queues) n t → records_in (legs q) ≡ records_in (legs d.queues)
   records_stay t q is = ap records_in is ∙ SpoolNumbers.records_kept (legs d.queues) n t
 
-  pub held_view : (q : Queues Errand) → legs q ≡ with_state (legs d.queues) n states.Held → is_flight l.state ≡ true → ((m : ℕ) → in_flight q m ≡ cond (is_in_flight_to m (legs d.queues n)) None (in_flight d.queues m))
+  pub held_view : (q : Queues Errand) → legs q ≡ with_state (legs d.queues) n states.Held → is_flight l.state ≡ true → ((m : ℕ) → in_flight q m ≡ cond (is_in_flight_to m (legs d.queues n)) (in_flight d.queues m - 1) (in_flight d.queues m))
       → view_with d q ≡ record (landed (core_view d) its_row) { rows = with_leg_row (core_view d).rows n (Some (in_state its_row rows.Held)) }
   held_view q is flies e = λ j. record (core_view d) { rows = state_rows states.Held q is j; records = records_stay states.Held q is j; flights = flights_landed flies (in_flight q) e j }
 
-  pub gone_view : (q : Queues Errand) → legs q ≡ put (legs d.queues) n None → is_flight l.state ≡ true → ((m : ℕ) → in_flight q m ≡ cond (is_in_flight_to m (legs d.queues n)) None (in_flight d.queues m))
+  pub gone_view : (q : Queues Errand) → legs q ≡ put (legs d.queues) n None → is_flight l.state ≡ true → ((m : ℕ) → in_flight q m ≡ cond (is_in_flight_to m (legs d.queues n)) (in_flight d.queues m - 1) (in_flight d.queues m))
       → view_with d q ≡ record (landed (core_view d) its_row) { rows = with_leg_row (core_view d).rows n None; records = put (core_view d).records n None }
   gone_view q is flies e = λ j. record (core_view d) { rows = gone_rows q is j; records = (ap records_in is ∙ SpoolNumbers.records_put (legs d.queues) n None) j; flights = flights_landed flies (in_flight q) e j }
 
@@ -112,12 +104,10 @@ module _ (d : Dispatcher) (n : ℕ) (l : Leg Errand) (at : legs d.queues n ≡ S
         | inr ne ↦ put_other f k m (Some s2) ne
       ]
 
-  pub same_rows : (t : State) → state_of t ≡ state_of l.state → (q : Queues Errand) → legs q ≡ with_state (legs d.queues) n t → (view_with d q).rows ≡ (core_view d).rows
-  same_rows t same q is = state_rows t q is ∙ ap (λ v. with_leg_row (core_view d).rows n (Some (in_state its_row v))) same ∙ row_stays its_row there
-
-  pub waits_view : state_of l.state ≡ rows.InSpool → (q : Queues Errand) → legs q ≡ with_state (legs d.queues) n states.InSpool → is_flight l.state ≡ true
-      → ((m : ℕ) → in_flight q m ≡ cond (is_in_flight_to m (legs d.queues n)) None (in_flight d.queues m)) → view_with d q ≡ landed (core_view d) its_row
-  waits_view spooled q is flies e = λ j. record (core_view d) { rows = same_rows states.InSpool (sym spooled) q is j; records = records_stay states.InSpool q is j; flights = flights_landed flies (in_flight q) e j }
+  pub waits_view : (q : Queues Errand) → legs q ≡ with_state (legs d.queues) n states.InSpool → is_flight l.state ≡ true
+      → ((m : ℕ) → in_flight q m ≡ cond (is_in_flight_to m (legs d.queues n)) (in_flight d.queues m - 1) (in_flight d.queues m))
+      → view_with d q ≡ record (landed (core_view d) its_row) { rows = with_leg_row (core_view d).rows n (Some (in_state its_row rows.InSpool)) }
+  waits_view q is flies e = λ j. record (core_view d) { rows = state_rows states.InSpool q is j; records = records_stay states.InSpool q is j; flights = flights_landed flies (in_flight q) e j }
 
   -- ---- what holds of the dispatcher
 

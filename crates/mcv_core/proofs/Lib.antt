@@ -8,6 +8,8 @@ pub mod SpooledLegs
 pub mod States
 pub mod SpoolNumbers
 pub mod Settlements
+pub mod FlightsStayWithin
+pub mod FlightsAreCounted
 pub mod LegViews
 pub mod SettledLegs
 pub mod LegEventsAreMoves
@@ -27,3 +29,4 @@ pub mod Readings
 pub mod OpenedCores
 pub mod AcknowledgedCalls
 pub mod Requests
+mod Examples

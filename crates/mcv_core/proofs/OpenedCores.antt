@@ -37,7 +37,7 @@ use Rattle.mcv_core.specs.declared.errand.Errand.{Errand}
 use Rattle.mcv_core.specs.CoreView.{CoreView}
 use Rattle.mcv_core.specs.Errands.{launch_of}
 use Rattle.mcv_core.specs.Facts.{record_in, records_in}
-use Rattle.mcv_core.specs.Opening.{AreOpened, IsOpenedErrand, known_numbers, known_records, opened_view, with_number, with_server}
+use Rattle.mcv_core.specs.Opening.{AreOpened, IsOpenedErrand, known_numbers, known_records, opened_within, with_number, with_server}
 use Rattle.mcv_core.specs.Rows.{all_rows, awaiting_state, call_rows, row_by, rows_by, rows_of, state_of}
 use Rattle.mcv_core.specs.Soundness.{spooled_one, IsSound}
 
@@ -253,12 +253,12 @@ module _ (r : RoutesValue) (records : List OpenedRecord) (numbers : List ℕ) (c
   }
 
 pub view : (r : RoutesValue) (records : List (ℕ × SpoolRecord)) (calls : ℕ → Option Call) → calls ≡ (λ k. None) → (legs : ℕ → Option (Leg Errand)) (count : ℕ) → AreOpened (known_records r.servers records) (known_numbers r.servers records) legs count
-    → (since : Option ℕ) → since ≡ since_at (breaks_of r) 0 → (flights : ℕ → Option ℕ) → ((s : ℕ) → flights s ≡ None) → (marks : ℕ → ServerFailures) → ((s : ℕ) → marks s ≡ no_mark) → (v : CoreView)
-    → v ≡ record { routes = r; rows = rows_of calls legs since 0 count; records = records_in legs; flights = flights; marks = marks; moment = 0; chapter = 0; entries = count } → v ≡ opened_view r records
-view r records calls no_calls legs count are since since_is flights none marks unmarked v is =
+    → (since : Option ℕ) → since ≡ since_at (breaks_of r) 0 → (flights : ℕ → ℕ) → ((s : ℕ) → flights s ≡ 0) → (limit : ℕ) (marks : ℕ → ServerFailures) → ((s : ℕ) → marks s ≡ no_mark) → (v : CoreView)
+    → v ≡ record { routes = r; rows = rows_of calls legs since 0 count; records = records_in legs; flights = flights; limit = limit; marks = marks; moment = 0; chapter = 0; entries = count } → v ≡ opened_within limit r records
+view r records calls no_calls legs count are since since_is flights none limit marks unmarked v is =
     let same = rows_are r (known_records r.servers records) (known_numbers r.servers records) calls no_calls legs count are since since_is state_of refl in
-    let nowhere : flights ≡ (λ s. None) = fun_ext none in
+    let nowhere : flights ≡ (λ s. 0) = fun_ext none in
     let no_marks : marks ≡ (λ s. no_mark) = fun_ext unmarked in
     let counted = are.counted in
     let numbers = fun_ext are.numbered in
-    is ∙ (λ j. record { routes = r; rows = same j; records = numbers j; flights = nowhere j; marks = no_marks j; moment = 0; chapter = 0; entries = counted j })
+    is ∙ (λ j. record { routes = r; rows = same j; records = numbers j; flights = nowhere j; limit = limit; marks = no_marks j; moment = 0; chapter = 0; entries = counted j })

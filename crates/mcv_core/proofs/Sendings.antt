@@ -1,5 +1,5 @@
 -- Legs that are sent, for the first time or from the spool.
-use Rattle.std.proofs.Common.{◌≡◌, ◌&&◌, cond, ℕ, Bool, true, false, nat_eq, Option, Some, None, option_map, refl, sym, ap, ◌∙◌, subst, true≢false}
+use Rattle.std.proofs.Common.{◌≡◌, ◌&&◌, cond, ℕ, ◌+◌, Bool, true, false, nat_eq, Option, Some, None, option_map, refl, sym, ap, ◌∙◌, subst, true≢false}
 use Rattle.std.proofs.Common.{Result, Ok, Err}
 use Rattle.std.specs.Prelude.{IfErr, IfOk}
 use Rattle.std.specs.Arc.{arc_value}
@@ -15,12 +15,10 @@ use Rattle.mcv_queues.specs.declared.leg.State.TheVariants as states
 use Rattle.mcv_queues.specs.declared.queues.Queues.{Queues}
 use Rattle.mcv_queues.specs.declared.roots.Group.TheVariants.{SpooledFor, WaitingFor}
 use Rattle.mcv_queues.specs.Groups.{group_at, group_of, is_group, is_in}
-use Rattle.mcv_queues.specs.Legs.{is_flight, is_in_flight_to, with_state}
-use Rattle.mcv_queues.specs.Numbers.{IsLeast, names}
+use Rattle.mcv_queues.specs.Legs.{with_state}
+use Rattle.mcv_queues.specs.Numbers.{IsLeast}
 use Rattle.mcv_queues.specs.Queues.{in_flight, legs, room, servers}
-use Rattle.mcv_world.specs.World.{put}
-use Rattle.mcv_events.specs.Rows as rows
-use Rattle.mcv_events.specs.Rows.{IsCore, LegRow, Rows, leg_state, with_leg_row, world_of}
+use Rattle.mcv_events.specs.Rows.{IsCore, leg_state, with_leg_row, world_of}
 use Rattle.mcv_events.specs.Events.{in_state}
 use Rattle.mcv_events.proofs.EventsAreMoves.{states_are_no_moves}
 use Rattle.mcv_core.specs.declared.dispatcher.Dispatcher.{Dispatcher}
@@ -28,8 +26,10 @@ use Rattle.mcv_core.specs.declared.errand.Errand.{Errand}
 use Rattle.mcv_core.specs.CoreView.{CoreView, IsBusy, IsFree, Unmoved, in_row_state, is_spooled, is_waiting, with_flight}
 use Rattle.mcv_core.specs.Events.{IsUnsent}
 use Rattle.mcv_core.specs.Errands.{launch_of}
+use Rattle.mcv_core.specs.Flights.{one_more}
 use Rattle.mcv_core.specs.Rows.{row_by, state_of}
 use Rattle.mcv_core.specs.View.{core_view}
+use Rattle.mcv_core.proofs.FlightsStayWithin.{one_more_is}
 use Rattle.mcv_core.proofs.LegViews
 
 and_true : (b : Bool) → (b && true) ≡ b
@@ -61,28 +61,25 @@ module _ (d : Dispatcher) (s : ℕ) where
   pub least_waiting : (b : Option ℕ) → IsLeast (is_in (legs d.queues) (WaitingFor s)) b → IsLeast (λ n. is_waiting s ((core_view d).rows.legs n)) b
   least_waiting b h = subst (λ w. IsLeast w b) (fun_ext (λ n. waiting_leg n (legs d.queues n) refl)) h
 
-  -- ---- which are in the spool for it, where nothing is in flight to it
+  -- ---- which are in the spool for it, and not in flight
 
-  spooled_leg : in_flight d.queues s ≡ None → (n : ℕ) (o : Option (Leg Errand)) → legs d.queues n ≡ o → is_group (group_of o) (SpooledFor s) ≡ is_spooled s (option_map (row_by state_of) o)
-  spooled_leg free n None at = refl
-  spooled_leg free n (Some l) at = by_state l.state refl
+  spooled_leg : (n : ℕ) (o : Option (Leg Errand)) → legs d.queues n ≡ o → is_group (group_of o) (SpooledFor s) ≡ is_spooled s (option_map (row_by state_of) o)
+  spooled_leg n None at = refl
+  spooled_leg n (Some l) at = by_state l.state
     where
       same : nat_eq l.server.0 s ≡ nat_eq (launch_of l.content).server.0 s
       same = ap (λ v. nat_eq v.0 s) (d.sound.addressed n l at)
 
-      no_flight : is_flight l.state ≡ true → nat_eq l.server.0 s ≡ false
-      no_flight f = sym (and_true (nat_eq l.server.0 s)) ∙ ap (λ b. nat_eq l.server.0 s && b) (sym f) ∙ ap (is_in_flight_to s) (sym at) ∙ sym (d.queues.sound.flying s n) ∙ ap (λ o. names o n) free
+      by_state : (t : State) → is_group (group_at l.server.0 t) (SpooledFor s) ≡ is_spooled s (Some (record (row_by state_of l) { state = state_of t }))
+      by_state states.Waiting = sym (and_false (nat_eq (launch_of l.content).server.0 s))
+      by_state states.Sent = sym (and_false (nat_eq (launch_of l.content).server.0 s))
+      by_state states.Held = sym (and_false (nat_eq (launch_of l.content).server.0 s))
+      by_state states.Refused = sym (and_false (nat_eq (launch_of l.content).server.0 s))
+      by_state states.InSpool = same ∙ sym (and_true (nat_eq (launch_of l.content).server.0 s))
+      by_state states.InReplay = sym (and_false (nat_eq (launch_of l.content).server.0 s))
 
-      by_state : (t : State) → l.state ≡ t → is_group (group_at l.server.0 t) (SpooledFor s) ≡ is_spooled s (Some (record (row_by state_of l) { state = state_of t }))
-      by_state states.Waiting is = sym (and_false (nat_eq (launch_of l.content).server.0 s))
-      by_state states.Sent is = sym (and_false (nat_eq (launch_of l.content).server.0 s))
-      by_state states.Held is = sym (and_false (nat_eq (launch_of l.content).server.0 s))
-      by_state states.Refused is = sym (and_false (nat_eq (launch_of l.content).server.0 s))
-      by_state states.InSpool is = same ∙ sym (and_true (nat_eq (launch_of l.content).server.0 s))
-      by_state states.InReplay is = sym (and_true (nat_eq (launch_of l.content).server.0 s) ∙ sym same ∙ no_flight (ap is_flight is))
-
-  pub least_spooled : in_flight d.queues s ≡ None → (b : Option ℕ) → IsLeast (is_in (legs d.queues) (SpooledFor s)) b → IsLeast (λ n. is_spooled s ((core_view d).rows.legs n)) b
-  least_spooled free b h = subst (λ w. IsLeast w b) (fun_ext (λ n. spooled_leg free n (legs d.queues n) refl)) h
+  pub least_spooled : (b : Option ℕ) → IsLeast (is_in (legs d.queues) (SpooledFor s)) b → IsLeast (λ n. is_spooled s ((core_view d).rows.legs n)) b
+  least_spooled b h = subst (λ w. IsLeast w b) (fun_ext (λ n. spooled_leg n (legs d.queues n) refl)) h
 
   -- ---- the leg that is sent
 
@@ -123,33 +120,24 @@ module _ (d : Dispatcher) (s : ℕ) where
 
   -- ---- what becomes of the view
 
-  module _ (n : ℕ) (q : Queues Errand) (flights : (m : ℕ) → in_flight q m ≡ cond (nat_eq s m) (Some n) (in_flight d.queues m)) where
-    flights_are : in_flight q ≡ put (in_flight d.queues) s (Some n)
-    flights_are = fun_ext flights
+  module _ (n : ℕ) (q : Queues Errand) (flights : (m : ℕ) → in_flight q m ≡ cond (nat_eq s m) (in_flight d.queues s + 1) (in_flight d.queues m)) where
+    flights_are : in_flight q ≡ one_more (in_flight d.queues) s
+    flights_are = one_more_is (in_flight d.queues) (in_flight q) s flights
 
-    sent_rows : (h : IsIn n states.Waiting) → legs q ≡ with_state (legs d.queues) n states.Sent → (LegViews.view_with d q).rows ≡ in_row_state (core_view d).rows n rows.Sent
-    sent_rows h is = LegViews.state_rows d n h.leg h.at states.Sent q is ∙ ap (λ o. with_leg_row (core_view d).rows n (option_map (λ z. in_state z rows.Sent) o)) (sym (LegViews.there d n h.leg h.at))
+    sent_rows : (t : State) (h : (l : Leg Errand) × (legs d.queues n ≡ Some l)) → legs q ≡ with_state (legs d.queues) n t → (LegViews.view_with d q).rows ≡ in_row_state (core_view d).rows n (state_of t)
+    sent_rows t h is = LegViews.state_rows d n h.0 h.1 t q is ∙ ap (λ o. with_leg_row (core_view d).rows n (option_map (λ z. in_state z (state_of t)) o)) (sym (LegViews.there d n h.0 h.1))
 
-    pub sent_view : (h : IsIn n states.Waiting) → legs q ≡ with_state (legs d.queues) n states.Sent
-        → LegViews.view_with d q ≡ with_flight (record (core_view d) { rows = in_row_state (core_view d).rows n rows.Sent }) s n
-    sent_view h is = λ j. record (core_view d) { rows = sent_rows h is j; records = LegViews.records_stay d n h.leg h.at states.Sent q is j; flights = flights_are j }
+    pub sent_view : (from t : State) (h : IsIn n from) → legs q ≡ with_state (legs d.queues) n t → LegViews.view_with d q ≡ with_flight (record (core_view d) { rows = in_row_state (core_view d).rows n (state_of t) }) s
+    sent_view from t h is = λ j. record (core_view d) { rows = sent_rows t (h.leg, h.at) is j; records = LegViews.records_stay d n h.leg h.at t q is j; flights = flights_are j }
 
-    pub sent_does : (h : IsIn n states.Waiting) → legs q ≡ with_state (legs d.queues) n states.Sent → IsCore (arc_value d.accepted) (LegViews.view_with d q).rows → Unmoved (core_view d) (LegViews.view_with d q)
-    sent_does h is core = record {
-      world = ap world_of (LegViews.state_rows d n h.leg h.at states.Sent q is)
-          ∙ states_are_no_moves (core_view d).rows n (row_by state_of h.leg) rows.Sent (LegViews.there d n h.leg h.at) (sym (ap (λ t. leg_state (state_of t)) h.is));
+    pub sent_does : (from t : State) (h : IsIn n from) → leg_state (state_of t) ≡ leg_state (state_of from) → legs q ≡ with_state (legs d.queues) n t → IsCore (arc_value d.accepted) (LegViews.view_with d q).rows
+        → Unmoved (core_view d) (LegViews.view_with d q)
+    sent_does from t h same is core = record {
+      world = ap world_of (LegViews.state_rows d n h.leg h.at t q is)
+          ∙ states_are_no_moves (core_view d).rows n (row_by state_of h.leg) (state_of t) (LegViews.there d n h.leg h.at) (same ∙ sym (ap (λ v. leg_state (state_of v)) h.is));
       core = core;
       routes = refl;
     }
-
-    replayed_rows : (h : IsIn n states.InSpool) → legs q ≡ with_state (legs d.queues) n states.InReplay → (LegViews.view_with d q).rows ≡ (core_view d).rows
-    replayed_rows h is = LegViews.same_rows d n h.leg h.at states.InReplay (sym (ap state_of h.is)) q is
-
-    pub replayed_view : (h : IsIn n states.InSpool) → legs q ≡ with_state (legs d.queues) n states.InReplay → LegViews.view_with d q ≡ with_flight (core_view d) s n
-    replayed_view h is = λ j. record (core_view d) { rows = replayed_rows h is j; records = LegViews.records_stay d n h.leg h.at states.InReplay q is j; flights = flights_are j }
-
-    pub replayed_does : (h : IsIn n states.InSpool) → legs q ≡ with_state (legs d.queues) n states.InReplay → IsCore (arc_value d.accepted) (LegViews.view_with d q).rows → Unmoved (core_view d) (LegViews.view_with d q)
-    replayed_does h is core = record { world = ap world_of (replayed_rows h is); core = core; routes = refl }
 
 -- ---- what holds of the dispatcher, sent or refused
 

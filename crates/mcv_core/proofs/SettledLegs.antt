@@ -1,5 +1,5 @@
 -- After a leg has left its state, and its call has recorded a reply of it.
-use Rattle.std.proofs.Common.{◌≡◌, cond, inl, inr, ℕ, ◌+◌, ◌<◌, ◌≤◌, ◌^◌, Bool, true, false, Option, Some, None, option_map, refl, sym, ap, ◌∙◌, subst, arith}
+use Rattle.std.proofs.Common.{◌≡◌, cond, inl, inr, ℕ, ◌+◌, ◌-◌, ◌<◌, ◌≤◌, ◌^◌, Bool, true, false, Option, Some, None, option_map, refl, sym, ap, ◌∙◌, subst, arith}
 use Rattle.std.specs.Arc.{arc_value}
 use Rattle.std.specs.Prelude.{option_and_then, unwrap_or}
 use Rattle.std.proofs.Math.Path.{fun_ext}
@@ -67,6 +67,7 @@ unspooled rows.Waiting e = refl
 unspooled rows.Sent e = refl
 unspooled rows.Held e = refl
 unspooled rows.InSpool e = absurd (omega (arith, e))
+unspooled rows.InReplay e = absurd (omega (arith, e))
 
 freed_is : (step : Recording) → freed_by step ≡ step.launched + cond step.ended step.left 0
 freed_is step = by_cases step.ended
@@ -89,8 +90,8 @@ removed calls calls2 calls3 k c ended two three = three ∙ by_cases ended
     by_cases true = ap (λ f. put f k None) two ∙ put_twice calls k (Some c) None
     by_cases false = two
 
-flies_to : (d : Dispatcher) (n : ℕ) (l : Leg Errand) (at : legs d.queues n ≡ Some l) (to : Settling) → is_flight l.state ≡ is_gone to → (flights2 : ℕ → Option ℕ)
-    → ((m : ℕ) → flights2 m ≡ cond (is_in_flight_to m (legs d.queues n)) None (in_flight d.queues m)) → flights2 ≡ flights_to to (in_flight d.queues) (launch_of l.content).server.0
+flies_to : (d : Dispatcher) (n : ℕ) (l : Leg Errand) (at : legs d.queues n ≡ Some l) (to : Settling) → is_flight l.state ≡ is_gone to → (flights2 : ℕ → ℕ)
+    → ((m : ℕ) → flights2 m ≡ cond (is_in_flight_to m (legs d.queues n)) (in_flight d.queues m - 1) (in_flight d.queues m)) → flights2 ≡ flights_to to (in_flight d.queues) (launch_of l.content).server.0
 flies_to d n l at kinds.Gone flies flights2 e = views.flights_landed d n l at flies flights2 e
 flies_to d n l at (kinds.InSpool seq) flies flights2 e = views.flights_stay d n l at flies flights2 e
 flies_to d n l at kinds.Refused flies flights2 e = views.flights_stay d n l at flies flights2 e
@@ -191,7 +192,7 @@ module _ (d : Dispatcher) (n : ℕ) (to : Settling) (can : CanSettle d n to) whe
         if_awaited v s there awaits =
             sym (ap (recorded_rows_if (arc_value d.accepted) v s x can.call) there ∙ ap (λ b. cond b (recorded_rows (arc_value d.accepted) v can.call (call_row can.running) s.launch.position x) v) awaits)
 
-        view_then : (records2 : ℕ → Option ℕ) → records2 ≡ records_to to n (records_in (legs d.queues)) → (flights2 : ℕ → Option ℕ) → flights2 ≡ flights_to to (in_flight d.queues) (launch_of can.leg.content).server.0
+        view_then : (records2 : ℕ → Option ℕ) → records2 ≡ records_to to n (records_in (legs d.queues)) → (flights2 : ℕ → ℕ) → flights2 ≡ flights_to to (in_flight d.queues) (launch_of can.leg.content).server.0
             → record (core_view d) { rows = rows_of (calls_at calls3) (legs q2) (since_of d) d.next_call (d.next_leg + result.launched); records = records2; flights = flights2 } ≡ has_settled d n to x
         view_then records2 records_are flights2 flights_are =
             let s : LegRow = row_by state_of can.leg in
@@ -201,7 +202,7 @@ module _ (d : Dispatcher) (n : ℕ) (to : Settling) (can : CanSettle d n to) whe
             let there : (core_view d).rows.legs n ≡ Some s = ap (option_map (row_by state_of)) can.at in
             (λ j. record (core_view d) { rows = rows_are j; records = records_are j; flights = flights_are j }) ∙ sym (ap (settled_row (core_view d) n to x) there)
 
-        pub view_settled : records_in (legs q2) ≡ records_in (legs q1) → ((m : ℕ) → in_flight q1 m ≡ cond (is_in_flight_to m (legs d.queues n)) None (in_flight d.queues m)) → ((m : ℕ) → in_flight q2 m ≡ in_flight q1 m)
+        pub view_settled : records_in (legs q2) ≡ records_in (legs q1) → ((m : ℕ) → in_flight q1 m ≡ cond (is_in_flight_to m (legs d.queues n)) (in_flight d.queues m - 1) (in_flight d.queues m)) → ((m : ℕ) → in_flight q2 m ≡ in_flight q1 m)
             → record (core_view d) { rows = rows_of (calls_at calls3) (legs q2) (since_of d) d.next_call (d.next_leg + result.launched); records = records_in (legs q2); flights = in_flight q2 } ≡ has_settled d n to x
         view_settled same_records left same_flights = view_then (records_in (legs q2)) (same_records ∙ ap records_in legs1_is ∙ SpoolNumbers.records_settled to (legs d.queues) n can.leg can.at) (in_flight q2) (flies_to d n can.leg can.at to can.flies (in_flight q2) (λ m. same_flights m ∙ left m))
 

@@ -102,7 +102,7 @@ module _ (r : RoutesValue) (calls : ℕ → Option Call) (legs : ℕ → Option 
         era = i.era;
       }
 
--- ---- a leg of the spool goes
+-- ---- a leg in replay goes
 
 at_most_one : (o : Option LegRow) → spooled_one o ≤ 1
 at_most_one None = omega arith
@@ -113,6 +113,7 @@ at_most_one (Some s) = by_state s.state
     by_state rows.Sent = omega arith
     by_state rows.Held = omega arith
     by_state rows.InSpool = omega arith
+    by_state rows.InReplay = omega arith
 
 module _ (r : RoutesValue) (calls : ℕ → Option Call) (legs : ℕ → Option (Leg Errand)) (since : Option ℕ) (moment next_call next_leg reserved queued spooled running room servers : ℕ)
     (i : IsSound r calls legs since moment next_call next_leg reserved queued spooled running room servers) (n : ℕ) (l : Leg Errand) (at : legs n ≡ Some l) where
@@ -139,7 +140,7 @@ module _ (r : RoutesValue) (calls : ℕ → Option Call) (legs : ℕ → Option 
       let q = i.queued_is in
       omega (arith, p, old, q)
 
-  pub one_spooled : state_of l.state ≡ rows.InSpool → 1 ≤ spooled
+  pub one_spooled : state_of l.state ≡ rows.InReplay → 1 ≤ spooled
   one_spooled e = let p = spooled_put in let one : spooled_in (state_of l.state) ≡ 1 = ap spooled_in e in omega (arith, p, one)
 
   pub one_queued : count_in (state_of l.state) ≡ 1 → 1 ≤ queued
@@ -159,7 +160,7 @@ module _ (r : RoutesValue) (calls : ℕ → Option Call) (legs : ℕ → Option 
       let q = i.spooled_is in
       omega (arith, p, old, none, most, q)
 
-  pub gone : state_of l.state ≡ rows.InSpool → (legs2 : ℕ → Option (Leg Errand)) → legs2 ≡ put legs n None → (spooled2 : ℕ) → spooled2 + 1 ≡ spooled → (room2 servers2 : ℕ) → room ≤ room2 → servers2 ≡ servers
+  pub gone : state_of l.state ≡ rows.InReplay → (legs2 : ℕ → Option (Leg Errand)) → legs2 ≡ put legs n None → (spooled2 : ℕ) → spooled2 + 1 ≡ spooled → (room2 servers2 : ℕ) → room ≤ room2 → servers2 ≡ servers
       → IsSound r calls legs2 since moment next_call next_leg reserved queued spooled2 running room2 servers2
   gone spooled_now legs2 is spooled2 less room2 servers2 wide known =
       let old : (m : ℕ) (z : Leg Errand) → legs2 m ≡ Some z → legs m ≡ Some z = λ m z f. elim (put_cases legs n m None z (sym (ap (λ g. g m) is) ∙ f)) [ inl q ↦ no_some q.1 | inr q ↦ q.1 ] in

@@ -4,7 +4,7 @@ use Rattle.mcv_world.specs.Moves.{Move, EraBegan}
 use Rattle.mcv_events.specs.Rows as rows
 use Rattle.mcv_events.specs.Rows.{LegRow, Rows}
 use Rattle.mcv_events.specs.Sums.{sum_below}
-use Rattle.mcv_core.specs.CoreView.{CoreView, IsGrounded}
+use Rattle.mcv_core.specs.CoreView.{CoreView}
 use Rattle.mcv_core.specs.Soundness.{spooled_one}
 use Rattle.mcv_core.specs.declared.turn.Era.{Era}
 
@@ -19,11 +19,10 @@ in_era v since = record v { rows = record v.rows { since = since } }
 abbrev pub spooled_legs : Rows → ℕ
 spooled_legs w = sum_below spooled_one w.legs w.next_leg
 
--- no call runs, each leg is in the spool and none in flight
+-- no call runs, and each leg is in the spool and not in flight
 pub record IsAtRest (v : CoreView) : Type 0 where
   pub calls : (k : ℕ) → v.rows.calls k ≡ None
   pub legs : (n : ℕ) (s : LegRow) → v.rows.legs n ≡ Some s → s.state ≡ rows.InSpool
-  pub flights : IsGrounded v
 
 -- and the chapter's number isn't the greatest
 pub record CanTurn (v : CoreView) : Type 0 where

@@ -1,12 +1,11 @@
 -- What contracts see of a core, and what its events do to that: the rules of the core (own).
-use Rattle.std.specs.Prelude.{◌≡◌, ℕ, ◌&&◌, not, Bool, true, false, List, Option, Some, None, IsSome, Result, Ok, Err, cond, length, nat_eq, option_map, slice_get}
+use Rattle.std.specs.Prelude.{◌≡◌, ◌<◌, ◌≤◌, ℕ, ◌&&◌, not, Bool, true, false, List, Option, Some, None, Result, Ok, Err, cond, length, nat_eq, option_map, slice_get}
 use Rattle.std.specs.Str.{bytes_eq}
 use Rattle.mcv_base.specs.declared.reply.FixedReply.TheVariants.{Lost}
 use Rattle.mcv_base.specs.Operation.{is_delete}
 use Rattle.mcv_base.specs.Reply.{ReplyValue, fixed_value}
 use Rattle.mcv_queues.specs.declared.marks.ServerFailures.{ServerFailures}
 use Rattle.mcv_queues.specs.Marks.{answered_mark, lost_mark, put_mark}
-use Rattle.mcv_queues.specs.Numbers.{names}
 use Rattle.mcv_route.specs.Routes.{RoutesValue}
 use Rattle.mcv_world.specs.World.{is_counted_delete, put}
 use Rattle.mcv_world.specs.LiveWorld.{live_of}
@@ -15,6 +14,7 @@ use Rattle.mcv_world.specs.PossibleMoves.{IsAllowed, IsOpening}
 use Rattle.mcv_events.specs.Rows as rows
 use Rattle.mcv_events.specs.Rows.{CallRow, IsCore, LegRow, Rows, awaits, leg_of, with_leg_row, world_of}
 use Rattle.mcv_events.specs.Events.{Moves, in_state, recorded_rows_for, refused_rows, spooled_rows, taken_rows}
+use Rattle.mcv_core.specs.Flights.{one_less, one_more}
 use Rattle.mcv_core.specs.declared.fault.CoreFault.{CoreFault}
 use Rattle.mcv_core.specs.declared.fault.CoreFault.TheVariants.{NoSuchLeg}
 use Rattle.mcv_core.specs.declared.step.Change.{Change}
@@ -29,8 +29,9 @@ pub record CoreView : Type 0 where
   pub rows : Rows
   -- of each leg the number of its record in the spool; None until it is stored there
   pub records : ℕ → Option ℕ
-  -- what is in flight to each server, sent or in replay
-  pub flights : ℕ → Option ℕ
+  -- how many legs are in flight to each server, sent or in replay, and how many may be
+  pub flights : ℕ → ℕ
+  pub limit : ℕ
   pub marks : ℕ → ServerFailures
   pub moment : ℕ
   pub chapter : ℕ
@@ -41,19 +42,15 @@ pub record CoreView : Type 0 where
 
 -- one more may be sent to the server
 abbrev pub IsFree : CoreView → ℕ → Type 0
-IsFree v server = v.flights server ≡ None
+IsFree v server = v.flights server < v.limit
 
--- or not, for what is in flight to it
+-- or not, since as many are in flight to it as may be
 abbrev pub IsBusy : CoreView → ℕ → Type 0
-IsBusy v server = IsSome (v.flights server)
+IsBusy v server = v.limit ≤ v.flights server
 
--- nothing is in flight
-abbrev pub IsGrounded : CoreView → Type 0
-IsGrounded v = (server n : ℕ) → names (v.flights server) n ≡ false
-
--- the leg is in flight to the server
-abbrev pub with_flight : CoreView → (server leg : ℕ) → CoreView
-with_flight v server leg = record v { flights = put v.flights server (Some leg) }
+-- one more is in flight to the server
+abbrev pub with_flight : CoreView → (server : ℕ) → CoreView
+with_flight v server = record v { flights = one_more v.flights server }
 
 -- ---- moves
 
@@ -107,7 +104,7 @@ with_mark v server g = record v { marks = put_mark (length v.routes.servers) v.m
 
 -- the leg isn't in flight any more
 abbrev pub landed : CoreView → LegRow → CoreView
-landed v s = record v { flights = put v.flights s.launch.server.0 None }
+landed v s = record v { flights = one_less v.flights s.launch.server.0 }
 
 abbrev pub step_to : LegState → Change → Step
 step_to state change = record { state = state; change = change }
@@ -131,7 +128,8 @@ sent_in v n y s = cond (is_counted_delete (leg_of s) && is_error_reply y) (held 
 -- a leg in replay is performed, or waits in the spool again
 abbrev pub replayed_in : CoreView → ℕ → Bool → LegRow → Effect
 replayed_in v n failed s =
-    cond failed (does (step_to leg_states.Spooled changes.Nothing) (landed v s)) (does (step_to leg_states.Performed changes.Performed) (record (landed v s) { rows = with_leg_row v.rows n None; records = put v.records n None }))
+    cond failed (does (step_to leg_states.Spooled changes.Nothing) (record (landed v s) { rows = with_leg_row v.rows n (Some (in_state s rows.InSpool)) }))
+    (does (step_to leg_states.Performed changes.Performed) (record (landed v s) { rows = with_leg_row v.rows n None; records = put v.records n None }))
 
 -- a held leg is in the spool, as the record of this number, and its call records NOT_FOUND, if it has no outcome
 abbrev pub stores : CoreView → (n seq : ℕ) → LegRow → Effect
@@ -150,15 +148,13 @@ at_row f None = refuses NoSuchLeg
 at_row f (Some s) = f s
 
 module _ (v : CoreView) (n : ℕ) where
-  abbrev pub flies : LegRow → Bool
-  flies s = names (v.flights s.launch.server.0) n
-
   -- a leg in flight has this reply
   abbrev pub landing_in : ReplyValue → LegRow → rows.State → Effect
   landing_in y s rows.Waiting = refuses NoSuchLeg
   landing_in y s rows.Sent = sent_in v n y s
   landing_in y s rows.Held = refuses NoSuchLeg
-  landing_in y s rows.InSpool = replayed_in v n (is_error_reply y) s
+  landing_in y s rows.InSpool = refuses NoSuchLeg
+  landing_in y s rows.InReplay = replayed_in v n (is_error_reply y) s
 
   abbrev pub landing_at : ReplyValue → Effect
   landing_at y = at_row (λ s. landing_in y s s.state) (v.rows.legs n)
@@ -168,14 +164,16 @@ module _ (v : CoreView) (n : ℕ) where
   answer_in x s rows.Waiting = refuses NoSuchLeg
   answer_in x s rows.Sent = sent_in (with_mark v s.launch.server.0 answered_mark) n (counted_as s.launch.op x) s
   answer_in x s rows.Held = refuses NoSuchLeg
-  answer_in x s rows.InSpool = cond (flies s) (replayed_in (with_mark v s.launch.server.0 answered_mark) n (is_error_reply (counted_as s.launch.op x)) s) (refuses NoSuchLeg)
+  answer_in x s rows.InSpool = refuses NoSuchLeg
+  answer_in x s rows.InReplay = replayed_in (with_mark v s.launch.server.0 answered_mark) n (is_error_reply (counted_as s.launch.op x)) s
 
-  -- or was lost
+  -- or was lost, which is a failure of its server
   abbrev pub loss_in : LegRow → rows.State → Effect
   loss_in s rows.Waiting = refuses NoSuchLeg
   loss_in s rows.Sent = sent_in (with_mark v s.launch.server.0 lost_mark) n (fixed_value Lost) s
   loss_in s rows.Held = refuses NoSuchLeg
-  loss_in s rows.InSpool = cond (flies s) (replayed_in (with_mark v s.launch.server.0 lost_mark) n true s) (refuses NoSuchLeg)
+  loss_in s rows.InSpool = refuses NoSuchLeg
+  loss_in s rows.InReplay = replayed_in (with_mark v s.launch.server.0 lost_mark) n true s
 
   -- a held leg is in the spool, where the record is the leg's
   abbrev pub spooling_in : ℕ → Bool → LegRow → rows.State → Effect
@@ -183,18 +181,24 @@ module _ (v : CoreView) (n : ℕ) where
   spooling_in seq its s rows.Sent = refuses NoSuchLeg
   spooling_in seq its s rows.Held = cond its (stores v n seq s) (refuses NoSuchLeg)
   spooling_in seq its s rows.InSpool = refuses NoSuchLeg
+  spooling_in seq its s rows.InReplay = refuses NoSuchLeg
 
   abbrev pub refusing_in : LegRow → rows.State → Effect
   refusing_in s rows.Waiting = refuses NoSuchLeg
   refusing_in s rows.Sent = refuses NoSuchLeg
   refusing_in s rows.Held = refused v s
   refusing_in s rows.InSpool = refuses NoSuchLeg
+  refusing_in s rows.InReplay = refuses NoSuchLeg
 
   abbrev pub answer_at : ReplyValue → Effect
   answer_at x = at_row (λ s. answer_in x s s.state) (v.rows.legs n)
 
   abbrev pub loss_at : Effect
   loss_at = at_row (λ s. loss_in s s.state) (v.rows.legs n)
+
+  -- it was lost too, with the connection of which another leg's loss has told: no failure more
+  abbrev pub lost_too_at : Effect
+  lost_too_at = landing_at (fixed_value Lost)
 
   -- the text of the leg's server, and the leg's rest
   abbrev pub is_record : List ℕ → List ℕ → LegRow → Bool
@@ -214,16 +218,19 @@ waits_in rows.Waiting = true
 waits_in rows.Sent = false
 waits_in rows.Held = false
 waits_in rows.InSpool = false
+waits_in rows.InReplay = false
 
 abbrev pub is_waiting : ℕ → Option LegRow → Bool
 is_waiting server None = false
 is_waiting server (Some s) = nat_eq s.launch.server.0 server && waits_in s.state
 
+-- in the spool, and not in flight
 abbrev pub is_in_spool : rows.State → Bool
 is_in_spool rows.Waiting = false
 is_in_spool rows.Sent = false
 is_in_spool rows.Held = false
 is_in_spool rows.InSpool = true
+is_in_spool rows.InReplay = false
 
 abbrev pub is_spooled : ℕ → Option LegRow → Bool
 is_spooled server None = false

@@ -23,7 +23,7 @@ use Rattle.mcv_events.specs.Rows.{world_of}
 use Rattle.mcv_core.specs.Asking.{IsAsked, IsUnbegun}
 use Rattle.mcv_core.specs.Beginning.{HasBegun}
 use Rattle.mcv_core.specs.Chapters.{CanTurn, era_move, in_era, turned}
-use Rattle.mcv_core.specs.CoreView.{CoreView, Does, Effect, HasEffect, IsBusy, IsFree, IsQuiet, Moved, Unmoved, answer_at, change_move, in_row_state, is_spooled, is_waiting, loss_at, refusing_at, spooling_at, taken_view, with_flight, with_mark}
+use Rattle.mcv_core.specs.CoreView.{CoreView, Does, Effect, HasEffect, IsBusy, IsFree, IsQuiet, Moved, Unmoved, answer_at, change_move, in_row_state, is_spooled, is_waiting, loss_at, lost_too_at, refusing_at, spooling_at, taken_view, with_flight, with_mark}
 use Rattle.mcv_core.specs.declared.fault.CoreFault.{CoreFault}
 use Rattle.mcv_core.specs.declared.fault.CoreFault.TheVariants.{UnknownPrefix, BadKey, LegsFull, ChapterFull, NothingWaiting, NoSuchLeg, Busy, ClockBack, Memory, NoSuchCall}
 use Rattle.mcv_core.specs.declared.step.Step.{Step}
@@ -85,7 +85,7 @@ IsFirstSpooled server v leg = IsLeast (λ n. is_spooled server (v.rows.legs n)) 
 pub record Sends (v : CoreView) (server : ServerId) (leg : LegId) (m : Option Move) (w : CoreView) : Type 0 where
   pub free : IsFree v server.0
   pub first : IsFirstWaiting server.0 v (Some leg.0)
-  pub view : w ≡ with_flight (record v { rows = in_row_state v.rows leg.0 rows.Sent }) server.0 leg.0
+  pub view : w ≡ with_flight (record v { rows = in_row_state v.rows leg.0 rows.Sent }) server.0
   pub none : m ≡ None
   pub does : Unmoved v w
 
@@ -97,7 +97,7 @@ IsNext v server (Err fault) m w = IsRefused (IsUnsent v server.0 IsFirstWaiting 
 pub record SendsAgain (v : CoreView) (server : ServerId) (leg : LegId) (m : Option Move) (w : CoreView) : Type 0 where
   pub free : IsFree v server.0
   pub first : IsFirstSpooled server.0 v (Some leg.0)
-  pub view : w ≡ with_flight v server.0 leg.0
+  pub view : w ≡ with_flight (record v { rows = in_row_state v.rows leg.0 rows.InReplay }) server.0
   pub none : m ≡ None
   pub does : Unmoved v w
 
@@ -122,9 +122,13 @@ pub record Happens (e : Effect) (leg : LegId) (x : ReplyValue) (v : CoreView) (a
 abbrev pub IsAnsweredLeg : CoreView → LegId → ReplyValue → Result Step CoreFault → Option Move → CoreView → Type 0
 IsAnsweredLeg v leg reply answer m w = Happens (answer_at v leg.0 reply) leg reply v answer m w
 
--- or was lost
+-- or was lost, and its server has one failure more
 abbrev pub IsLostLeg : CoreView → LegId → Result Step CoreFault → Option Move → CoreView → Type 0
 IsLostLeg v leg answer m w = Happens (loss_at v leg.0) leg (fixed_value Lost) v answer m w
+
+-- or was lost too, with the connection of which another leg's loss has told
+abbrev pub IsLostTooLeg : CoreView → LegId → Result Step CoreFault → Option Move → CoreView → Type 0
+IsLostTooLeg v leg answer m w = Happens (lost_too_at v leg.0) leg (fixed_value Lost) v answer m w
 
 -- the spool took a held leg, as this record
 abbrev pub IsSpooledLeg : CoreView → LegId → Stored → Result Step CoreFault → Option Move → CoreView → Type 0

@@ -10,7 +10,7 @@ use Rattle.mcv_world.specs.World.{World}
 use Rattle.mcv_events.specs.Rows.{world_of}
 use Rattle.mcv_symbolic.specs.CoveredRoutes.{AreCovered}
 use Rattle.mcv_core.specs.CoreView.{CoreView, Does}
-use Rattle.mcv_core.specs.Opening.{opened_view}
+use Rattle.mcv_core.specs.Opening.{opened_within}
 
 -- the routes are covered, deletes are kept in this world, and the core keeps what is left of it
 pub record KeepsDeletes (v : CoreView) (world : World) : Type 0 where
@@ -35,4 +35,4 @@ abbrev pub EventsKeepDeletes : Type 0
 EventsKeepDeletes = (v w : CoreView) (m : Option Move) → Does v w m → DeletesStayKept v w m
 
 abbrev pub OpenedCoresKeepDeletes : Type 0
-OpenedCoresKeepDeletes = (r : RoutesValue) (records : List (ℕ × SpoolRecord)) → AreCovered r → KeepsDeletes (opened_view r records) (world_of (opened_view r records).rows)
+OpenedCoresKeepDeletes = (limit : ℕ) (r : RoutesValue) (records : List (ℕ × SpoolRecord)) → AreCovered r → KeepsDeletes (opened_within limit r records) (world_of (opened_within limit r records).rows)

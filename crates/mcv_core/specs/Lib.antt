@@ -8,6 +8,7 @@ pub mod Recordings
 pub mod Calls
 pub mod Soundness
 pub mod Facts
+pub mod Flights
 pub mod CoreView
 pub mod Settling
 pub mod View

@@ -40,18 +40,23 @@ abbrev pub known_numbers : List (List ℕ) → List (ℕ × SpoolRecord) → Lis
 known_numbers servers [] = []
 known_numbers servers (x ∷ records) = with_number (number_in bytes_eq servers x.1.server) x.0 (known_numbers servers records)
 
--- nothing in flight, no mark, at moment 0 of chapter 0
-abbrev pub opened_view : RoutesValue → List (ℕ × SpoolRecord) → CoreView
-opened_view r records = record {
+-- nothing in flight, of so many legs that may be, no mark, at moment 0 of chapter 0
+abbrev pub opened_within : (limit : ℕ) → RoutesValue → List (ℕ × SpoolRecord) → CoreView
+opened_within limit r records = record {
   routes = r;
   rows = opened (since_at (breaks_of r) 0) (known_records r.servers records);
   records = slice_get (known_numbers r.servers records);
-  flights = λ s. None;
+  flights = λ s. 0;
+  limit = limit;
   marks = λ s. no_mark;
   moment = 0;
   chapter = 0;
   entries = length (known_records r.servers records);
 }
+
+-- one leg of a server may be in flight at a time
+abbrev pub opened_view : RoutesValue → List (ℕ × SpoolRecord) → CoreView
+opened_view r records = opened_within 1 r records
 
 -- a delete at the root, of no call
 pub record IsOpenedErrand (server : ServerId) (rest : List ℕ) (e : Errand) : Type 0 where

@@ -23,6 +23,7 @@ leg_state rows.Waiting = leg_states.Waiting
 leg_state rows.Sent = leg_states.Sent
 leg_state rows.Held = leg_states.Held
 leg_state rows.InSpool = leg_states.Spooled
+leg_state rows.InReplay = leg_states.Spooled
 
 -- ---- which leg the spool is to take
 
@@ -31,6 +32,7 @@ is_held_in rows.Waiting = false
 is_held_in rows.Sent = false
 is_held_in rows.Held = true
 is_held_in rows.InSpool = false
+is_held_in rows.InReplay = false
 
 abbrev pub is_held : Option LegRow → Bool
 is_held None = false

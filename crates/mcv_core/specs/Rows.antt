@@ -68,7 +68,7 @@ state_of states.Sent = rows.Sent
 state_of states.Held = rows.Held
 state_of states.Refused = rows.Held
 state_of states.InSpool = rows.InSpool
-state_of states.InReplay = rows.InSpool
+state_of states.InReplay = rows.InReplay
 
 -- a held leg of which its call has no outcome awaits it, as one that was sent does
 abbrev pub awaiting_state : queued.State → State
@@ -77,7 +77,7 @@ awaiting_state states.Sent = rows.Sent
 awaiting_state states.Held = rows.Sent
 awaiting_state states.Refused = rows.Held
 awaiting_state states.InSpool = rows.InSpool
-awaiting_state states.InReplay = rows.InSpool
+awaiting_state states.InReplay = rows.InReplay
 
 -- a leg's row, by what its state is taken for
 abbrev pub row_by : (queued.State → State) → Leg Errand → LegRow

@@ -15,6 +15,7 @@ use Rattle.mcv_core.specs.declared.settle.Owner.{Owner}
 use Rattle.mcv_core.specs.declared.settle.Settling.{Settling}
 use Rattle.mcv_core.specs.declared.settle.Settling.TheVariants as to
 use Rattle.mcv_core.specs.CoreView.{CoreView}
+use Rattle.mcv_core.specs.Flights.{one_less}
 
 -- the call and the entry of a leg; both 0 where it has none
 pub record IsOwner (leg : Option (Leg Errand)) (owner : Owner) : Type 0 where
@@ -62,9 +63,9 @@ row_to to.Gone s = None
 row_to (to.InSpool seq) s = Some (in_state s rows.InSpool)
 row_to to.Refused s = Some (in_state s rows.Held)
 
--- what is in flight to each server then
-abbrev pub flights_to : Settling → (ℕ → Option ℕ) → ℕ → ℕ → Option ℕ
-flights_to to.Gone flights server = put flights server None
+-- how many legs are in flight to each server then
+abbrev pub flights_to : Settling → (ℕ → ℕ) → ℕ → ℕ → ℕ
+flights_to to.Gone flights server = one_less flights server
 flights_to (to.InSpool seq) flights server = flights
 flights_to to.Refused flights server = flights
 

@@ -22,6 +22,7 @@ spooled_in rows.Waiting = 0
 spooled_in rows.Sent = 0
 spooled_in rows.Held = 0
 spooled_in rows.InSpool = 1
+spooled_in rows.InReplay = 1
 
 abbrev pub spooled_one : Option LegRow → ℕ
 spooled_one None = 0

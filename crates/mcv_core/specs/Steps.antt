@@ -19,7 +19,7 @@ use Rattle.mcv_events.specs.Rows.{world_of}
 use Rattle.mcv_core.specs.AcknowledgedCalls.{AnsweredCallsAreKept}
 use Rattle.mcv_core.specs.Answers.{call_answer, done_answer, leg_answer, reply_answer, state_answer}
 use Rattle.mcv_core.specs.CoreView.{CoreView}
-use Rattle.mcv_core.specs.Events.{IsAnsweredLeg, IsBegun, IsClocked, IsLostLeg, IsMarked, IsNext, IsRefusedLeg, IsReplay, IsSpooledLeg, IsTaken, IsTurned, IsUnmarked}
+use Rattle.mcv_core.specs.Events.{IsAnsweredLeg, IsBegun, IsClocked, IsLostLeg, IsLostTooLeg, IsMarked, IsNext, IsRefusedLeg, IsReplay, IsSpooledLeg, IsTaken, IsTurned, IsUnmarked}
 use Rattle.mcv_core.specs.KeptDeletes.{DeletesStayKept}
 use Rattle.mcv_core.specs.declared.fault.CoreFault.{CoreFault}
 use Rattle.mcv_core.specs.declared.run.Answer.{Answer}
@@ -36,6 +36,7 @@ pub data Step (chosen : SymbolValue → List ℕ → ℕ) (v : CoreView) : Event
   replayed : (server : ServerId) (r : Result LegId CoreFault) (m : Option Move) (w : CoreView) → IsReplay v server r m w → Step chosen v (event.Replay server) (leg_answer r) m w
   answered : (leg : LegId) (reply : ReplyValue) (r : Result Done CoreFault) (m : Option Move) (w : CoreView) → IsAnsweredLeg v leg reply r m w → Step chosen v (event.Answered leg reply) (state_answer r) m w
   lost : (leg : LegId) (r : Result Done CoreFault) (m : Option Move) (w : CoreView) → IsLostLeg v leg r m w → Step chosen v (event.Lost leg) (state_answer r) m w
+  lost_too : (leg : LegId) (r : Result Done CoreFault) (m : Option Move) (w : CoreView) → IsLostTooLeg v leg r m w → Step chosen v (event.LostToo leg) (state_answer r) m w
   spooled : (leg : LegId) (stored : Stored) (r : Result Done CoreFault) (m : Option Move) (w : CoreView) → IsSpooledLeg v leg stored r m w → Step chosen v (event.Spooled leg stored) (state_answer r) m w
   refused : (leg : LegId) (r : Result Done CoreFault) (m : Option Move) (w : CoreView) → IsRefusedLeg v leg r m w → Step chosen v (event.SpoolRefused leg) (state_answer r) m w
   marked : (server : ServerId) (m : Option Move) (w : CoreView) → IsMarked v server m w → Step chosen v (event.Mark server) answer.Done m w

@@ -29,6 +29,7 @@ core_view d = record {
   rows = rows_of (calls_at d.calls) (legs d.queues) (since_of d) d.next_call d.next_leg;
   records = records_in (legs d.queues);
   flights = in_flight d.queues;
+  limit = d.limit;
   marks = marks d.marks;
   moment = d.moment.0;
   chapter = d.chapter;

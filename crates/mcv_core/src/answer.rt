@@ -5,8 +5,8 @@ ghost use Rattle.mcv_base.specs.Operation.{is_delete};
 ghost use Rattle.mcv_base.specs.Reply.{part_value};
 ghost use Rattle.mcv_queues.specs.Legs.{is_flight, is_in_flight};
 ghost use Rattle.mcv_queues.specs.Queues.{legs};
-ghost use Rattle.mcv_core.specs.CoreView.{HasDone, at_row, finished, held, landing_at, replayed_in, sent_in};
-ghost use Rattle.mcv_core.specs.Events.{IsAnsweredLeg, IsEvent, IsLostLeg};
+ghost use Rattle.mcv_core.specs.CoreView.{HasDone, at_row, finished, held, landing_at, lost_too_at, replayed_in, sent_in};
+ghost use Rattle.mcv_core.specs.Events.{IsAnsweredLeg, IsEvent, IsLostLeg, IsLostTooLeg};
 ghost use Rattle.mcv_core.specs.Facts.{counts_in, facts_of as facts_seen, state_in};
 ghost use Rattle.mcv_core.specs.View.{core_view};
 ghost use Rattle.mcv_core.specs.declared.step.LegState.TheVariants as leg_states;
@@ -21,7 +21,7 @@ use mcv_base::{LegId, Op, Parts};
 use mcv_queues::State;
 
 impl Dispatcher {
-    /// A leg in flight was answered.
+    /// A leg in flight was answered: any of those that are, in whatever order they were sent.
     pub fn answered(&mut self, leg: LegId, parts: Parts) -> Result<Step, CoreFault>
         ensures { IsEvent (IsAnsweredLeg (core_view self.old) leg parts result) (core_view self.new) }
     {
@@ -35,16 +35,26 @@ impl Dispatcher {
         }
     }
 
-    /// A leg in flight was lost.
+    /// A leg in flight was lost, and its server has one failure more.
     pub fn lost(&mut self, leg: LegId) -> Result<Step, CoreFault>
         ensures { IsEvent (IsLostLeg (core_view self.old) leg result) (core_view self.new) }
     {
         match self.flying(leg) {
             Ok(facts) => {
-                let counted = Counted::lost();
                 self.marks.lost(facts.server);
-                Ok(self.land(leg, facts, counted))
+                Ok(self.lose(leg, facts))
             }
+            Err(fault) => Err(fault),
+        }
+    }
+
+    /// A leg in flight was lost too, with the connection of which another leg's loss has told: its server has no failure
+    /// more. The connection's oldest leg is `lost`, and each other one of it `lost_too`.
+    pub fn lost_too(&mut self, leg: LegId) -> Result<Step, CoreFault>
+        ensures { IsEvent (IsLostTooLeg (core_view self.old) leg result) (core_view self.new) }
+    {
+        match self.flying(leg) {
+            Ok(facts) => Ok(self.lose(leg, facts)),
             Err(fault) => Err(fault),
         }
     }
@@ -59,6 +69,15 @@ impl Dispatcher {
             Some(facts) if is_flight(facts.state) => Ok(facts),
             _ => Err(CoreFault::NoSuchLeg),
         }
+    }
+
+    /// A leg in flight has no reply, whatever its server's mark is.
+    fn lose(&mut self, leg: LegId, facts: LegFacts) -> Step
+        requires at { option_map facts_seen (legs self.old.queues leg.0) ≡ Some facts }
+        requires flies { is_flight facts.state ≡ true }
+        ensures { HasDone (lost_too_at (core_view self.old) leg.0) (core_view self.new) result }
+    {
+        self.land(leg, facts, Counted::lost())
     }
 
     /// A leg in flight has this reply.

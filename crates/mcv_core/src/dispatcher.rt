@@ -3,8 +3,9 @@
 ghost use Rattle.std.specs.Prelude.{◌≡◌, length, option_map};
 ghost use Rattle.std.specs.Arc.{arc_value};
 ghost use Rattle.mcv_queues.specs.Marks.{servers as marked_servers};
-ghost use Rattle.mcv_queues.specs.Queues.{legs, room as leg_room, servers as known};
+ghost use Rattle.mcv_queues.specs.Queues.{in_flight, legs, room as leg_room, servers as known};
 ghost use Rattle.mcv_core.specs.Calls.{calls_at};
+ghost use Rattle.mcv_core.specs.Flights.{AreWithin};
 ghost use Rattle.mcv_core.specs.Soundness.{IsSound};
 
 use crate::calls::Calls;
@@ -32,6 +33,9 @@ pub struct Dispatcher {
     /// How many entries the chapter's calls and spooled legs may write.
     pub(crate) entries: usize,
     pub(crate) chapter: u64,
+    /// How many legs of a server may be in flight at a time.
+    pub(crate) limit: usize,
     ghost sound: { IsSound (arc_value accepted) (calls_at calls) (legs queues) (option_map (λ m. m.0) since) moment.0 next_call next_leg counts.reserved counts.queued counts.spooled counts.running (leg_room queues) (known queues) },
     ghost table: { marked_servers marks ≡ length (arc_value accepted).servers },
+    ghost within: { AreWithin (in_flight queues) limit },
 }

@@ -3,6 +3,7 @@
 ghost use Rattle.std.specs.Arc.{arc_value};
 ghost use Rattle.std.specs.Prelude.{◌≡◌, ◌≤◌, None, IfOk, IfErr, IfSome, length, true};
 ghost use Rattle.std.specs.Borrow.{sem};
+ghost use Rattle.std.specs.Int.NonZero.{non_zero_usize_get};
 ghost use Rattle.mcv_base.specs.Key.{is_key_word};
 ghost use Rattle.mcv_pools.specs.Choice.{HasIndexEach};
 ghost use Rattle.mcv_symbolic.specs.CoveredRoutes.{AreCovered};
@@ -11,7 +12,7 @@ ghost use Rattle.mcv_core.specs.Asking.{HasNoKey, IsAsked, IsKeyOf, IsUnbegun};
 ghost use Rattle.mcv_core.specs.BorrowedCore.{BorrowsEvents};
 ghost use Rattle.mcv_core.specs.Events.{IsBegun, IsEvent};
 ghost use Rattle.mcv_core.specs.KeptDeletes.{KeepsDeletes};
-ghost use Rattle.mcv_core.specs.Opening.{opened_view};
+ghost use Rattle.mcv_core.specs.Opening.{opened_view, opened_within};
 ghost use Rattle.mcv_core.specs.View.{core_view};
 ghost use Rattle.mcv_core.specs.declared.fault.CoreFault.TheVariants.{Memory as OutOfMemory};
 
@@ -23,6 +24,7 @@ use mcv_check::Accepted;
 use mcv_pools::{KeyHash, choose};
 use mcv_spool::SpoolRecord;
 use std::alloc::Global;
+use std::num::NonZeroUsize;
 use std::sync::Arc;
 
 /// The core of the proxy.
@@ -34,7 +36,8 @@ pub struct Core<H> {
 
 impl<H: KeyHash + Drop> Core<H> {
     /// A core over these routes, opened with the records that the spool held: their legs have the numbers from 0 in their
-    /// order. Records of servers that the routes don't have are left to the file. The one error is `Memory`.
+    /// order. Records of servers that the routes don't have are left to the file. One leg of a server may be in flight at a
+    /// time. The one error is `Memory`.
     pub fn new(
         alloc: Global,
         accepted: Arc<Accepted>,
@@ -47,7 +50,25 @@ impl<H: KeyHash + Drop> Core<H> {
         ensures err { IfErr result (λ fault. fault ≡ OutOfMemory) }
     {
         deletes_are_covered(&accepted);
-        let dispatcher = Dispatcher::open(alloc, accepted, records)?;
+        let dispatcher = Dispatcher::open(alloc, accepted, records, 1)?;
+        Ok(Core { dispatcher, hash })
+    }
+
+    /// The same, where so many legs of a server may be in flight at a time.
+    pub fn with_limit(
+        alloc: Global,
+        accepted: Arc<Accepted>,
+        hash: H,
+        records: &[(u64, SpoolRecord)],
+        limit: NonZeroUsize,
+    ) -> Result<Core<H>, CoreFault>
+        ensures view { IfOk result (λ core. core_view core.dispatcher ≡ opened_within (non_zero_usize_get limit) (arc_value accepted) records.now) }
+        ensures hash { IfOk result (λ core. core.hash ≡ hash) }
+        ensures keeps { IfOk result (λ core. KeepsDeletes (core_view core.dispatcher) (world_of (core_view core.dispatcher).rows)) }
+        ensures err { IfErr result (λ fault. fault ≡ OutOfMemory) }
+    {
+        deletes_are_covered(&accepted);
+        let dispatcher = Dispatcher::open(alloc, accepted, records, limit.get())?;
         Ok(Core { dispatcher, hash })
     }
 

@@ -20,7 +20,7 @@ pub enum CoreFault {
     NothingWaiting = 5,
     #[error("no leg of this number can take the event")]
     NoSuchLeg = 6,
-    #[error("a leg is in flight, or a call runs")]
+    #[error("as many legs as may be are in flight, or a call runs")]
     Busy = 7,
     #[error("the clock goes back")]
     ClockBack = 8,

@@ -8,7 +8,7 @@ ghost use Rattle.mcv_pools.specs.Table.{number_in};
 ghost use Rattle.mcv_queues.specs.declared.leg.State.TheVariants.{InSpool};
 ghost use Rattle.mcv_queues.specs.Queues.{in_flight, legs, room as leg_room, servers as known};
 ghost use Rattle.mcv_world.specs.World.{put};
-ghost use Rattle.mcv_core.specs.Opening.{AreOpened, IsOpenedErrand, known_numbers, known_records, opened_view, with_number, with_server};
+ghost use Rattle.mcv_core.specs.Opening.{AreOpened, IsOpenedErrand, known_numbers, known_records, opened_within, with_number, with_server};
 ghost use Rattle.mcv_core.specs.View.{core_view};
 ghost use Rattle.mcv_core.specs.declared.fault.CoreFault.TheVariants.{Memory as OutOfMemory};
 
@@ -122,7 +122,7 @@ fn opened_legs(
     records: &[(u64, SpoolRecord)],
 ) -> Result<Opened, AllocError>
     ensures opened { IfOk result (λ o. AreOpened (known_records accepted.now.servers records.now) (known_numbers accepted.now.servers records.now) (legs o.queues) o.count) }
-    ensures flights { IfOk result (λ o. (s : ℕ) → in_flight o.queues s ≡ None) }
+    ensures flights { IfOk result (λ o. (s : ℕ) → in_flight o.queues s ≡ 0) }
     ensures servers { IfOk result (λ o. known o.queues ≡ length accepted.now.servers) }
 {
     let servers = accepted.routes().servers();
@@ -137,13 +137,14 @@ fn opened_legs(
 
 impl Dispatcher {
     /// No call runs, and the records whose servers are in the table are legs in the spool, numbered from 0 in their order.
-    /// The other records are left to the file.
+    /// The other records are left to the file. So many legs of a server may be in flight at a time.
     pub(crate) fn open(
         alloc: Global,
         accepted: Arc<Accepted>,
         records: &[(u64, SpoolRecord)],
+        limit: usize,
     ) -> Result<Dispatcher, CoreFault>
-        ensures view { IfOk result (λ d. core_view d ≡ opened_view (arc_value accepted) records.now) }
+        ensures view { IfOk result (λ d. core_view d ≡ opened_within limit (arc_value accepted) records.now) }
         ensures err { IfErr result (λ fault. fault ≡ OutOfMemory) }
     {
         let opened = opened_legs(alloc, &accepted, records)?;
@@ -168,6 +169,7 @@ impl Dispatcher {
             },
             entries: opened.count,
             chapter: 0,
+            limit,
         })
     }
 }

@@ -1,8 +1,9 @@
 //! What is read of the legs.
 
-ghost use Rattle.std.specs.Prelude.{◌≡◌, option_and_then, option_copied, option_map};
+ghost use Rattle.std.specs.Prelude.{◌≡◌, ◌≤◌, option_and_then, option_copied, option_map};
 ghost use Rattle.mcv_queues.specs.Numbers.{leg_number};
 ghost use Rattle.mcv_core.specs.Errands.{launch_of, rest_of};
+ghost use Rattle.mcv_core.specs.Flights.{AreInFlight};
 ghost use Rattle.mcv_core.specs.Readers.{IsFirstHeld, call_asked, leg_state, request_in, request_of, row_asked, seen, seen_row};
 ghost use Rattle.mcv_core.specs.Rows.{call_row, state_of};
 ghost use Rattle.mcv_core.specs.View.{core_view, records_of};
@@ -118,6 +119,22 @@ impl Dispatcher {
     {
         let row = self.queues.get(leg)?;
         Some(LegState::of(row.state))
+    }
+
+    /// How many legs of a server are in flight, sent or in replay.
+    pub fn in_flight(&self, server: ServerId) -> usize
+        ensures flights { result ≡ (core_view self.now).flights server.0 }
+        ensures counted { ∥ AreInFlight (core_view self.now).rows server.0 result ∥₁ }
+        ensures within { result ≤ (core_view self.now).limit }
+    {
+        self.queues.in_flight(server)
+    }
+
+    /// How many legs of a server may be in flight at a time.
+    pub fn limit(&self) -> usize
+        ensures { result ≡ (core_view self.now).limit }
+    {
+        self.limit
     }
 
     /// The number of the next leg that a call launches: those that an event launched have the numbers from what it was

@@ -26,6 +26,8 @@ pub enum Event {
     Next(ServerId),
     Answered(LegId, Parts),
     Lost(LegId),
+    /// With the connection of which another leg's loss has told.
+    LostToo(LegId),
     Spooled(LegId, Stored),
     SpoolRefused(LegId),
     Replay(ServerId),
@@ -43,7 +45,7 @@ pub enum Answer {
     Call(CallId),
     /// To `Next` and `Replay`.
     Leg(LegId),
-    /// The leg's state after `Answered`, `Lost`, `Spooled` and `SpoolRefused`.
+    /// The leg's state after `Answered`, `Lost`, `LostToo`, `Spooled` and `SpoolRefused`.
     State(LegState),
     /// To `Take`; None while the call has no reply, or where it was taken.
     Reply(Option<Part>),
@@ -116,6 +118,7 @@ impl<H: KeyHash + Drop> Core<H> {
             Event::Next(server) => Answer::leg(self.dispatcher.next(server)),
             Event::Answered(leg, parts) => Answer::state(self.dispatcher.answered(leg, parts)),
             Event::Lost(leg) => Answer::state(self.dispatcher.lost(leg)),
+            Event::LostToo(leg) => Answer::state(self.dispatcher.lost_too(leg)),
             Event::Spooled(leg, stored) => Answer::state(self.dispatcher.spooled(leg, stored)),
             Event::SpoolRefused(leg) => Answer::state(self.dispatcher.spool_refused(leg)),
             Event::Replay(server) => Answer::leg(self.dispatcher.replay(server)),

@@ -23,21 +23,23 @@ impl CoreFault {
 }
 
 impl Dispatcher {
-    /// Sends the first leg that waits for a server: the one with the least number.
+    /// Sends the first leg that waits for a server: the one with the least number. `Busy` where as many legs of the server
+    /// are in flight as may be, else `NothingWaiting` where none waits.
     pub fn next(&mut self, server: ServerId) -> Result<LegId, CoreFault>
         ensures { IsEvent (IsNext (core_view self.old) server result) (core_view self.new) }
     {
-        match self.queues.next(server) {
+        match self.queues.next(server, self.limit) {
             Ok(leg) => Ok(leg),
             Err(fault) => Err(CoreFault::refused(fault)),
         }
     }
 
-    /// Sends the first leg of a server that is in the spool: the one with the least number. It stays in the spool.
+    /// Sends the first leg of a server that is in the spool and not in flight: the one with the least number. It stays in the
+    /// spool. `Busy` and `NothingWaiting` as in `next`.
     pub fn replay(&mut self, server: ServerId) -> Result<LegId, CoreFault>
         ensures { IsEvent (IsReplay (core_view self.old) server result) (core_view self.new) }
     {
-        match self.queues.replay(server) {
+        match self.queues.replay(server, self.limit) {
             Ok(leg) => Ok(leg),
             Err(fault) => Err(CoreFault::refused(fault)),
         }

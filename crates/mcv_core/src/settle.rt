@@ -1,6 +1,6 @@
 //! A leg leaves its state, and its call records a reply of it.
 
-ghost use Rattle.std.specs.Prelude.{◌≡◌, ◌≤◌, ◌+◌, ◌^◌, ◌<◌, ◌&&◌, ℕ, None, cond, option_map, true};
+ghost use Rattle.std.specs.Prelude.{◌≡◌, ◌≤◌, ◌+◌, ◌-◌, ◌^◌, ◌<◌, ◌&&◌, ℕ, cond, option_map, true};
 ghost use Rattle.mcv_base.specs.Reply.{part_value};
 ghost use Rattle.mcv_queues.specs.Legs.{IsSentTo, is_in_flight, is_in_flight_to};
 ghost use Rattle.mcv_queues.specs.Queues.{in_flight, legs, room, servers as known};
@@ -39,7 +39,7 @@ fn leave(queues: &mut Queues<Errand>, leg: LegId, server: ServerId, to: Settling
     requires flies { is_in_flight (legs queues.old leg.0) ≡ is_gone to }
     requires sent { is_gone to ≡ true → IsSentTo server.0 (legs queues.old leg.0) }
     ensures legs { legs queues.new ≡ put (legs queues.old) leg.0 (settled_to to (legs queues.old leg.0)) }
-    ensures flights { (s : ℕ) → in_flight queues.new s ≡ cond (is_in_flight_to s (legs queues.old leg.0)) None (in_flight queues.old s) }
+    ensures flights { (s : ℕ) → in_flight queues.new s ≡ cond (is_in_flight_to s (legs queues.old leg.0)) (in_flight queues.old s - 1) (in_flight queues.old s) }
     ensures servers { known queues.new ≡ known queues.old }
     ensures room { room queues.old ≤ room queues.new }
 {

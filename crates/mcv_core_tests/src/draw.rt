@@ -22,6 +22,7 @@ pub(crate) enum Deed {
     Next(ServerId),
     Answered(usize, Say),
     Lost(usize),
+    LostToo(usize),
     /// Whether the record is the leg's.
     Spooled(usize, bool),
     SpoolRefused(usize),
@@ -40,10 +41,10 @@ pub(crate) struct Dice {
 }
 
 /// What is drawn, a letter a chance: many calls at once.
-const BUSY: &[u8] = b"bbbbbbbbbbnnnnnnnnnnnnaaaaaaaaallllsssssfffrrrmucTtttttt";
+const BUSY: &[u8] = b"bbbbbbbbbbnnnnnnnnnnnnaaaaaaaaalLLlsssssfffrrrmucTtttttt";
 
 /// The same with few calls, which end, so that chapters turn.
-const CALM: &[u8] = b"bbbnnnnnnnnnnaaaaaaaaaalllssssssfrrrmucTTTTTTtttttttttttt";
+const CALM: &[u8] = b"bbbnnnnnnnnnnaaaaaaaaaalLlssssssfrrrmucTTTTTTtttttttttttt";
 
 /// The operations of calls.
 const OPS: &[u8] = b"ddddddggxsi";
@@ -218,6 +219,7 @@ pub(crate) fn drawn(dice: &mut Dice, model: &Model<'_>, calm: bool) -> Deed {
         b'n' => Deed::Next(drawn_server(dice, model, &[Stage::Waiting])),
         b'a' => drawn_reply(dice, model),
         b'l' => Deed::Lost(drawn_leg(dice, model, IN_FLIGHT)),
+        b'L' => Deed::LostToo(drawn_leg(dice, model, IN_FLIGHT)),
         b's' => Deed::Spooled(
             drawn_leg(dice, model, &[Stage::Held, Stage::Refused]),
             !dice.once_in(8),

@@ -1,7 +1,7 @@
 //! What the model expects the core to answer.
 
 use crate::draw::{Deed, Say};
-use crate::model::{Call, IN_FLIGHT, Model, OPEN, Stage};
+use crate::model::{Call, Model, OPEN, Stage};
 use crate::readable::has_outcome;
 use crate::script::shown;
 use mcv_base::{Moment, Outcome, Part, ServerId};
@@ -92,9 +92,9 @@ impl Model<'_> {
         }
     }
 
-    /// The server's first leg at this stage is sent, unless one is in flight.
+    /// The server's first leg at this stage is sent, unless as many as may be are in flight.
     fn of_sending(&self, server: ServerId, stage: Stage) -> Expected {
-        if self.first_leg(0, Some(server), IN_FLIGHT).is_some() {
+        if self.in_flight(server) >= self.limit {
             return Expected::Refused(CoreFault::Busy);
         }
         match self.first_leg(0, Some(server), &[stage]) {
@@ -164,7 +164,7 @@ impl Model<'_> {
             Deed::Next(server) => self.of_sending(server, Stage::Waiting),
             Deed::Replay(server) => self.of_sending(server, Stage::Spooled),
             Deed::Answered(leg, say) => self.of_landing(leg, self.is_failure(rt, leg, say)),
-            Deed::Lost(leg) => self.of_landing(leg, true),
+            Deed::Lost(leg) | Deed::LostToo(leg) => self.of_landing(leg, true),
             Deed::Spooled(leg, own) => self.of_spool(leg, own, LegState::Spooled),
             Deed::SpoolRefused(leg) => self.of_spool(leg, true, LegState::Held),
             Deed::Mark(_) | Deed::Unmark(_) => Expected::Done,

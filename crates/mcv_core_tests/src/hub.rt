@@ -10,7 +10,8 @@ use mcv_base::{CallId, LegId};
 use mcv_check::Accepted;
 use mcv_core::CoreFault;
 use mcv_hub::{
-    Entry, Guard, Hub, HubLedger, LegReply, Passes, Receipt, ReceiptFault, Report, Seat, TakenReply,
+    Capacity, Entry, Guard, Hub, HubLedger, LegReply, Passes, Receipt, ReceiptFault, Report, Seat,
+    TakenReply,
 };
 use std::marker::Brand;
 use std::process::Abort;
@@ -26,7 +27,7 @@ begin Delete = Ok(CallId(0))
 next 0 = Ok(LegId(0))
 lost 0 = Ok(Held)
 spooled 0 a = Ok(Spooled)
-take 0 = Fixed(NotFound) Receipt { chapter: 0, entry: 2, call: CallId(0) }
+take 0 = Fixed(NotFound) Receipt { hub: 0, chapter: 0, entry: 2, call: CallId(0) }
 replay 0 = Ok(LegId(0))
 answered 0 Deleted = Ok(Performed)";
 
@@ -36,7 +37,7 @@ begin Get = Ok(CallId(1))
 take 1 = none
 next 0 = Ok(LegId(1))
 answered 1 x = Ok(Gone)
-take 1 = Owned(Hit { flags: 7, cas: None, body: [120] }) Receipt { chapter: 0, entry: 6, call: CallId(1) }
+take 1 = Owned(Hit { flags: 7, cas: None, body: [120] }) Receipt { hub: 0, chapter: 0, entry: 6, call: CallId(1) }
 take 1 = NoSuchCall";
 
 /// Plays a script of one seat: a line is an event and what the guard answers to it.
@@ -107,6 +108,7 @@ fn moved<B: HubLedger, T: Ledger>(
 
 fn receipt(entry: usize, call: u64) -> Receipt {
     Receipt {
+        hub: 0,
         chapter: 0,
         entry,
         call: CallId(call),
@@ -121,7 +123,7 @@ fn check_close<B: HubLedger, T: Ledger>(
     receipts: &[Receipt],
     wanted: Result<Report, ReceiptFault>,
 ) {
-    let found = guard.close(rt.alloc(), &mut seat.begun, &mut seat.taken, receipts);
+    let found = guard.close(rt.alloc(), seat, receipts);
     assert!(rt; found == wanted, "{found:?}, not {wanted:?}");
 }
 
@@ -162,6 +164,8 @@ fn check_closes<B: HubLedger, T: Ledger>(
         &[receipt(0, 0)],
         Err(ReceiptFault::Stranger),
     );
+    let other = Receipt { hub: 1, ..first };
+    check_close(rt, guard, seat, &[other], Err(ReceiptFault::Stranger));
 }
 
 /// Two sessions, one after the other, and what the hub says of their receipts.
@@ -186,9 +190,14 @@ fn hub_of<B: HubLedger, T: Ledger>(
 ) -> (Hub<B, T>, Passes<B, T>)
     requires begun { (begun.name ≡ B.name) × (begun.parts ≡ B.parts) × (begun.parts ≡ SEATS + 1) }
     requires taken { (taken.name ≡ T.name) × (taken.parts ≡ T.parts) × (taken.parts ≡ SEATS + 1) }
+    requires number { 0 ≡ B.number }
     requires opened { B.opened ≡ opened_view (arc_value accepted) [] }
 {
-    Hub::new(rt.alloc(), accepted, &[], 4, SEATS, begun, taken).expect(rt, "memory")
+    let capacity = Capacity {
+        bells: 4,
+        seats: SEATS,
+    };
+    Hub::new(rt.alloc(), accepted, 0, &[], capacity, begun, taken).expect(rt, "memory")
 }
 
 /// A hub has two seats, and no third one.
@@ -200,6 +209,7 @@ fn two_seats<B: HubLedger, T: Ledger>(
 )
     requires begun { (begun.name ≡ B.name) × (begun.parts ≡ B.parts) × (begun.parts ≡ SEATS + 1) }
     requires taken { (taken.name ≡ T.name) × (taken.parts ≡ T.parts) × (taken.parts ≡ SEATS + 1) }
+    requires number { 0 ≡ B.number }
     requires opened { B.opened ≡ opened_view (arc_value accepted) [] }
 {
     let (hub, mut passes) = hub_of::<B, T>(rt, accepted, begun, taken);

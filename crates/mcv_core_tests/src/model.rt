@@ -65,6 +65,8 @@ pub(crate) struct Model<'a> {
     pub(crate) calls: Vec<Call>,
     pub(crate) legs: Vec<Leg>,
     pub(crate) moment: Moment,
+    /// How many legs of a server may be in flight at a time.
+    pub(crate) limit: usize,
 }
 
 impl Stage {
@@ -97,12 +99,17 @@ fn outcomes_of<'a>(rt: &(impl AllocGlobal + Abort), answered: &'a [Answered]) ->
 }
 
 impl<'a> Model<'a> {
-    pub(crate) fn new(rt: &(impl AllocGlobal + Abort), ground: &'a Ground) -> Model<'a> {
+    pub(crate) fn new(
+        rt: &(impl AllocGlobal + Abort),
+        ground: &'a Ground,
+        limit: usize,
+    ) -> Model<'a> {
         Model {
             ground,
             calls: Vec::new(rt.alloc()),
             legs: Vec::new(rt.alloc()),
             moment: Moment(0),
+            limit,
         }
     }
 
@@ -283,7 +290,9 @@ impl<'a> Model<'a> {
                 let reply = self.counted(rt, leg, say);
                 self.land(rt, leg, reply, state);
             }
-            Deed::Lost(leg) => self.land(rt, leg, Part::Fixed(FixedReply::Lost), state),
+            Deed::Lost(leg) | Deed::LostToo(leg) => {
+                self.land(rt, leg, Part::Fixed(FixedReply::Lost), state);
+            }
             Deed::Spooled(leg, _) => {
                 self.put(leg, Stage::Spooled);
                 self.record(rt, leg, Part::Fixed(FixedReply::NotFound));
@@ -306,6 +315,25 @@ impl<'a> Model<'a> {
             (Deed::Clock(moment), Answer::Done) => self.moment = Moment(moment),
             (Deed::Take(call), Answer::Reply(Some(_))) => self.take(call),
             _ => {}
+        }
+    }
+
+    /// How many legs are in flight to the server.
+    pub(crate) fn in_flight(&self, server: ServerId) -> usize {
+        let mut count: usize = 0;
+        for leg in &self.legs {
+            if leg.is_to(Some(server)) && leg.stage.is_in_flight() {
+                count = count.saturating_add(1);
+            }
+        }
+        count
+    }
+
+    /// Whether it sends a leg to a server to which others are in flight.
+    pub(crate) fn is_beside_others(&self, deed: Deed) -> bool {
+        match deed {
+            Deed::Next(server) | Deed::Replay(server) => self.in_flight(server) > 0,
+            _ => false,
         }
     }
 

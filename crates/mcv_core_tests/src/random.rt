@@ -91,6 +91,8 @@ struct Seen {
     spooled: u64,
     taken: u64,
     turned: u64,
+    /// Legs that were sent while others of their server were in flight.
+    beside: u64,
     /// Legs that acknowledged deletes keep.
     kept: u64,
 }
@@ -103,6 +105,7 @@ impl Seen {
             spooled: 0,
             taken: 0,
             turned: 0,
+            beside: 0,
             kept: 0,
         }
     }
@@ -124,6 +127,7 @@ impl Seen {
             && self.spooled >= 1_000
             && self.taken >= 2_000
             && self.turned >= 2_000
+            && self.beside >= 2_000
             && self.kept >= 2_000
     }
 }
@@ -159,6 +163,7 @@ fn event_of(rt: &(impl AllocGlobal + Abort), model: &Model<'_>, deed: Deed) -> E
         Deed::Next(server) => Event::Next(server),
         Deed::Answered(leg, say) => Event::Answered(LegId(leg as u64), say.parts(rt, leg)),
         Deed::Lost(leg) => Event::Lost(LegId(leg as u64)),
+        Deed::LostToo(leg) => Event::LostToo(LegId(leg as u64)),
         Deed::Spooled(leg, own) => spooled(rt, model, leg, own),
         Deed::SpoolRefused(leg) => Event::SpoolRefused(LegId(leg as u64)),
         Deed::Replay(server) => Event::Replay(server),
@@ -199,9 +204,10 @@ struct Run<'a> {
 }
 
 impl<'a> Run<'a> {
-    /// Opens a core with up to two records.
+    /// Opens a core with up to two records. Up to three legs of a server may be in flight at a time.
     fn open(rt: &(impl AllocGlobal + Abort), ground: &'a Ground, dice: &mut Dice) -> Run<'a> {
-        let mut model = Model::new(rt, ground);
+        let limit = dice.below(3).saturating_add(1);
+        let mut model = Model::new(rt, ground, limit);
         let mut records = Vec::new(rt.alloc());
         for seq in 0..dice.below(3) {
             let server = dice.below(ground.routes().servers().len().saturating_add(1));
@@ -213,7 +219,7 @@ impl<'a> Run<'a> {
         }
         let accepted = Arc::try_clone(&ground.accepted).expect(rt, "memory");
         Run {
-            core: opened(rt, accepted, records.as_slice()),
+            core: opened(rt, accepted, records.as_slice(), limit),
             model,
             events: 0,
             amiss: None,
@@ -229,9 +235,13 @@ impl<'a> Run<'a> {
         seen: &mut Seen,
     ) -> bool {
         let event = event_of(rt, &self.model, deed);
+        let beside = self.model.is_beside_others(deed);
         let answer = self.core.answer(rt.alloc(), event);
         let agrees = self.model.is_expected(rt, expected, &answer);
         seen.count(deed, &answer);
+        if beside && matches!(answer, Answer::Leg(_)) {
+            seen.beside = seen.beside.saturating_add(1);
+        }
         self.model.take_in(rt, deed, &answer);
         agrees
     }

@@ -39,16 +39,24 @@ fn config_of(name: &str) -> &'static str {
     }
 }
 
-/// A core over the configuration of this name, opened with the records behind it.
+/// A core over the configuration of this name, opened with the records behind it. A number behind the name and a slash says
+/// how many legs of a server may be in flight at a time.
 fn core_with(rt: &(impl AllocGlobal + Abort), opening: &str) -> Core<Fnv> {
     let mut words = opening.split(", ");
-    let config = config_of(words.next().unwrap_or(""));
+    let name = words.next().unwrap_or("");
+    let (name, limit) = name.split_once('/').unwrap_or((name, "1"));
+    let config = config_of(name);
     let mut records = Vec::new(rt.alloc());
     for line in words {
         records.push(record_of(rt, line)).expect(rt, "memory");
     }
     let accepted = accepted_of(rt, config).expect(rt, "covered routes");
-    opened(rt, accepted, records.as_slice())
+    opened(
+        rt,
+        accepted,
+        records.as_slice(),
+        number_of(rt, limit) as usize,
+    )
 }
 
 /// Plays a script: its first line opens a core, each other one is an event or a look.
@@ -80,6 +88,7 @@ fn answer(rt: &(impl AllocGlobal + Abort), core: &mut Core<Fnv>, word: &str, mor
         "entries" => shown(rt, core.state().entries()),
         "era" => shown(rt, core.state().era()),
         "legs" => shown(rt, core.state().next_leg()),
+        "limit" => shown(rt, core.state().limit()),
         _ => moved(rt, core.events(), word, number_of(rt, more)),
     }
 }
@@ -95,6 +104,7 @@ fn moved(
         "next" => shown(rt, core.next(server(number))),
         "replay" => shown(rt, core.replay(server(number))),
         "lost" => shown(rt, state(core.lost(LegId(number)))),
+        "lost_too" => shown(rt, state(core.lost_too(LegId(number)))),
         "refused" => shown(rt, state(core.spool_refused(LegId(number)))),
         "take" => shown(rt, core.take(CallId(number))),
         "clock" => shown(rt, core.clock(Moment(number))),
@@ -111,6 +121,7 @@ fn seen(rt: &(impl AllocGlobal + Abort), core: &Dispatcher, word: &str, number: 
         "record" => shown(rt, core.record(LegId(number))),
         "ready" => shown(rt, core.can_take(CallId(number))),
         "marked" => shown(rt, core.marked(server(number))),
+        "flights" => shown(rt, core.in_flight(server(number))),
         "leg" => leg(rt, core.leg(LegId(number))),
         "asks" => asks(rt, core, LegId(number)),
         _ => shown(rt, "no such word"),

@@ -9,6 +9,7 @@ use mcv_pools::Fnv;
 use mcv_spool::{Disk, DiskFailed, Spool, SpoolRecord, Stored};
 use mcv_verdict::{Judgement, judge_input};
 use std::alloc::Global;
+use std::num::NonZeroUsize;
 use std::process::Abort;
 use std::sync::Arc;
 
@@ -39,13 +40,18 @@ pub(crate) fn accepted_of(rt: &(impl AllocGlobal + Abort), text: &str) -> Option
     }
 }
 
-/// A core over accepted routes, opened with these records.
+/// A core over accepted routes, opened with these records. So many legs of a server may be in flight at a time.
 pub(crate) fn opened(
     rt: &(impl AllocGlobal + Abort),
     accepted: Arc<Accepted>,
     records: &[(u64, SpoolRecord)],
+    limit: usize,
 ) -> Core<Fnv> {
-    Core::new(rt.alloc(), accepted, Fnv, records).expect(rt, "a core")
+    if limit == 1 {
+        return Core::new(rt.alloc(), accepted, Fnv, records).expect(rt, "a core");
+    }
+    let limit = NonZeroUsize::new(limit).expect(rt, "a limit");
+    Core::with_limit(rt.alloc(), accepted, Fnv, records, limit).expect(rt, "a core")
 }
 
 /// The bytes, owned.

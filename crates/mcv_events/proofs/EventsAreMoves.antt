@@ -237,7 +237,7 @@ refused_moves r w n s k c i at held own there no_outcome =
 
 pub performed_moves : PerformedMoves
 performed_moves r w n s i at spooled =
-    let is = one_at w n s (λ z. is_spooled z.state) at (ap is_spooled (state_is r w n s i at InSpool spooled)) in
+    let is = one_at w n s (λ z. is_spooled z.state) at (ap is_spooled spooled) in
     record {
       is = is;
       moves =

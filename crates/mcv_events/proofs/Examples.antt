@@ -11,17 +11,17 @@ use Rattle.mcv_route.specs.declared.launch.Answered.{Answered}
 use Rattle.mcv_route.specs.declared.launch.Launch.{Launch}
 use Rattle.mcv_route.specs.Routes.{RoutesValue}
 use Rattle.mcv_route.specs.Tree.{Tree, pool, many, Failover, none, child}
-use Rattle.mcv_world.specs.World.{LegState, Queued, Call, reply_of}
+use Rattle.mcv_world.specs.World.{LegState, Queued, Spooled, Call, reply_of}
 use Rattle.mcv_world.specs.Moves.{WasPerformed, new_call, with_reply}
 use Rattle.mcv_events.specs.Entries.{is_launched, is_due}
-use Rattle.mcv_events.specs.Rows.{State, Waiting, Sent, Held, InSpool, LegRow, Rows, waiting, world_of, with_leg_row}
+use Rattle.mcv_events.specs.Rows.{State, Waiting, Sent, Held, InSpool, InReplay, IsCore, LegRow, Rows, waiting, world_of, with_leg_row}
 use Rattle.mcv_events.specs.Events.{answered_rows, spooled_rows, refused_rows, began_rows, in_state}
 use Rattle.mcv_events.specs.Runs.{opened, Runs, done, moved}
 use Rattle.mcv_events.specs.Reservations.{reserved}
 use Rattle.mcv_events.specs.QueuedLegs.{queued_legs}
 use Rattle.mcv_events.specs.Status.{recorded_one, recorded_all}
 use Rattle.mcv_events.proofs.CoresKeepDeletes.{opened_is_core}
-use Rattle.mcv_events.proofs.EventsAreMoves.{performed_moves}
+use Rattle.mcv_events.proofs.EventsAreMoves.{performed_moves, states_keep_cores}
 
 abbrev server : ℕ → Tree
 server x = pool (record { symbol = 0; servers = x ∷ [] }) [] none
@@ -138,12 +138,26 @@ answered_delete_replies = refl
 opened_record_is_in_the_spool : state_at (opened None ((5, 97 ∷ []) ∷ [])) 0 ≡ Some InSpool
 opened_record_is_in_the_spool = refl
 
-replayed_record_is_performed : Runs routes (opened None ((5, 97 ∷ []) ∷ [])) (WasPerformed 0 ∷ []) (with_leg_row (opened None ((5, 97 ∷ []) ∷ [])) 0 None)
+abbrev record_row : LegRow
+record_row = record { call = None; entry = 0; launch = record { position = []; server = record { 0 = 5 }; op = Delete; mark = Plain }; rest = 97 ∷ []; request = None; state = InSpool }
+
+-- it is sent again
+abbrev replayed : Rows
+replayed = with_leg_row (opened None ((5, 97 ∷ []) ∷ [])) 0 (Some (in_state record_row InReplay))
+
+record_in_replay_stays_spooled : world_state_at replayed 0 ≡ Some Spooled
+record_in_replay_stays_spooled = refl
+
+record_in_replay_is_not_queued : queued_legs replayed ≡ 0
+record_in_replay_is_not_queued = refl
+
+replayed_is_core : IsCore routes replayed
+replayed_is_core = states_keep_cores routes (opened None ((5, 97 ∷ []) ∷ [])) 0 record_row InReplay (opened_is_core routes None ((5, 97 ∷ []) ∷ [])) refl (λ e. e) (λ e. refl)
+
+replayed_record_is_performed : Runs routes replayed (WasPerformed 0 ∷ []) (with_leg_row replayed 0 None)
 replayed_record_is_performed =
-    let old = opened None ((5, 97 ∷ []) ∷ []) in
-    moved old (with_leg_row old 0 None) (with_leg_row old 0 None) (WasPerformed 0) [] tt
-    (performed_moves routes old 0 (record { call = None; entry = 0; launch = record { position = []; server = record { 0 = 5 }; op = Delete; mark = Plain }; rest = 97 ∷ []; request = None; state = InSpool }) (opened_is_core routes None ((5, 97 ∷ []) ∷ [])) refl refl)
-    (done (with_leg_row old 0 None))
+    moved replayed (with_leg_row replayed 0 None) (with_leg_row replayed 0 None) (WasPerformed 0) [] tt (performed_moves routes replayed 0 (in_state record_row InReplay) replayed_is_core refl refl)
+    (done (with_leg_row replayed 0 None))
 
 -- ---- what is recorded
 

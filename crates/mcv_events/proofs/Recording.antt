@@ -18,7 +18,7 @@ use Rattle.mcv_world.specs.World.{Call, tree_of, situation_of, choice_of, histor
 use Rattle.mcv_world.specs.Moves.{is_one, has_no_outcome, queue, with_reply, launched_since, recorded_by}
 use Rattle.mcv_world.specs.LiveWorld.{has_ended, running, live_in, live_leg, live_of}
 use Rattle.mcv_events.specs.Entries.{is_launched, is_due, has_leg_at}
-use Rattle.mcv_events.specs.Rows.{awaits, State, Waiting, Sent, Held, InSpool, LegRow, CallRow, Rows, leg_state, leg_of, world_of, is_unanswered, IsCallRow, IsCore, payload_of, queued_rows, recorded_row, recorded_rows, CanRecord}
+use Rattle.mcv_events.specs.Rows.{awaits, State, Waiting, Sent, Held, InSpool, InReplay, LegRow, CallRow, Rows, leg_state, leg_of, world_of, is_unanswered, IsCallRow, IsCore, payload_of, queued_rows, recorded_row, recorded_rows, CanRecord}
 use Rattle.mcv_world.proofs.Numbers.{same_some, none_when, no_some, put_same, put_other, put_cases, at_some}
 use Rattle.mcv_world.proofs.CallsLegs.{all_at}
 use Rattle.mcv_events.proofs.Entries.{fresh_are_entries, not_true, cond_false}
@@ -31,6 +31,7 @@ leg_of_lives s Waiting = refl
 leg_of_lives s Sent = refl
 leg_of_lives s Held = refl
 leg_of_lives s InSpool = refl
+leg_of_lives s InReplay = refl
 
 pub live_leg_of : (o : Option LegRow) → live_leg (option_map leg_of o) ≡ option_map leg_of o
 live_leg_of None = refl

@@ -6,7 +6,7 @@ use Rattle.mcv_base.specs.declared.request.Request.{Request}
 use Rattle.mcv_base.specs.Reply.{ReplyValue, not_found, fixed_value}
 use Rattle.mcv_route.specs.declared.launch.Launch.{Launch}
 use Rattle.mcv_route.specs.Routes.{RoutesValue}
-use Rattle.mcv_world.specs.World.{Call, reply_of, is_counted_delete, put}
+use Rattle.mcv_world.specs.World.{Spooled, Call, reply_of, is_counted_delete, put}
 use Rattle.mcv_world.specs.Moves.{Move, Began, Answered, WasSpooled, WasRefused, WasPerformed, EraBegan, Taken, counted_as, is_error_reply, has_no_outcome, is_move, is_other_era, new_call, with_taken, after}
 use Rattle.mcv_world.specs.LiveWorld.{has_ended, live_of}
 use Rattle.mcv_events.specs.Entries.{IsLaidOut, is_launched}
@@ -85,7 +85,7 @@ RefusedMoves =
     → has_no_outcome (leg_of s) c.call ≡ true → Moves r w (refused_rows r w s) (WasRefused n)
 
 abbrev pub PerformedMoves : Type 0
-PerformedMoves = (r : RoutesValue) (w : Rows) (n : ℕ) (s : LegRow) → IsCore r w → w.legs n ≡ Some s → s.state ≡ InSpool → Moves r w (with_leg_row w n None) (WasPerformed n)
+PerformedMoves = (r : RoutesValue) (w : Rows) (n : ℕ) (s : LegRow) → IsCore r w → w.legs n ≡ Some s → leg_state s.state ≡ Spooled → Moves r w (with_leg_row w n None) (WasPerformed n)
 
 -- another era begins
 abbrev pub EraMoves : Type 0
@@ -98,12 +98,12 @@ TakenMoves =
 
 -- ---- or leaves the world as it is
 
--- where a row's state changes and its leg's doesn't: in each of Waiting, Sent and Held the leg is Queued
+-- where a row's state changes and its leg's doesn't: in each of Waiting, Sent and Held the leg is Queued, in InSpool and InReplay Spooled
 abbrev pub StatesAreNoMoves : Type 0
 StatesAreNoMoves =
     (w : Rows) (n : ℕ) (s : LegRow) (t : State) → w.legs n ≡ Some s → leg_state t ≡ leg_state s.state → world_of (with_leg_row w n (Some (in_state s t))) ≡ world_of w
 
--- such a change keeps what holds of a core's rows: Waiting to Sent, and Sent to Held for a counted delete leg
+-- such a change keeps what holds of a core's rows: Waiting to Sent, Sent to Held for a counted delete leg, InSpool to InReplay and back
 abbrev pub StatesKeepCores : Type 0
 StatesKeepCores =
     (r : RoutesValue) (w : Rows) (n : ℕ) (s : LegRow) (t : State) → IsCore r w → w.legs n ≡ Some s → (is_unanswered t ≡ true → is_unanswered s.state ≡ true)

@@ -7,7 +7,7 @@ use Rattle.mcv_route.specs.Routes.{RoutesValue}
 use Rattle.mcv_world.specs.World.{Call}
 use Rattle.mcv_world.specs.Moves.{with_reply}
 use Rattle.mcv_events.specs.Entries.{is_launched, is_due}
-use Rattle.mcv_events.specs.Rows.{State, Waiting, Sent, Held, InSpool, LegRow, CallRow, Rows, recorded_rows, with_leg_row}
+use Rattle.mcv_events.specs.Rows.{State, Waiting, Sent, Held, InSpool, InReplay, LegRow, CallRow, Rows, recorded_rows, with_leg_row}
 use Rattle.mcv_events.specs.Events.{began_rows}
 use Rattle.mcv_events.specs.Sums.{sum_below}
 
@@ -17,6 +17,7 @@ count_in Waiting = 1
 count_in Sent = 1
 count_in Held = 1
 count_in InSpool = 0
+count_in InReplay = 0
 
 abbrev pub count_of : Option LegRow → ℕ
 count_of None = 0

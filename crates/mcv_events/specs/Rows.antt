@@ -20,6 +20,8 @@ pub data State : Type 0 where
   -- for the spool, since it was lost or answered with an error
   Held : State
   InSpool : State
+  -- in the spool, and to its server again
+  InReplay : State
 
 pub record LegRow : Type 0 where
   pub call : Option ℕ
@@ -53,6 +55,7 @@ leg_state Waiting = Queued
 leg_state Sent = Queued
 leg_state Held = Queued
 leg_state InSpool = Spooled
+leg_state InReplay = Spooled
 
 abbrev pub leg_of : LegRow → Leg
 leg_of s = record { call = s.call; launch = s.launch; rest = s.rest; state = leg_state s.state }
@@ -68,6 +71,7 @@ is_unanswered Waiting = true
 is_unanswered Sent = true
 is_unanswered Held = false
 is_unanswered InSpool = false
+is_unanswered InReplay = false
 
 -- the leg's call runs, and has no outcome for it
 abbrev pub awaits : (ℕ → Option CallRow) → LegRow → Option ℕ → Bool

@@ -1,5 +1,5 @@
 -- What the core's reader of a call says is what its row has.
-use Rattle.std.proofs.Common.{◌≡◌, ◌∙◌, ℕ, List, Option, Some, None, option_map, refl, sym, ap, subst}
+use Rattle.std.proofs.Common.{◌≡◌, ◌∙◌, ℕ, List, Option, Some, None, option_map, refl, sym, ap}
 use Rattle.mcv_world.proofs.Numbers.{no_some, same_some}
 use Rattle.mcv_events.specs.Rows.{CallRow}
 use Rattle.mcv_core.specs.Readers.{Asked, call_asked, row_asked}

@@ -18,21 +18,22 @@ use Rattle.mcv_route.specs.Eras.{breaks_of, since_at}
 use Rattle.mcv_route.specs.Routes.{RoutesValue}
 use Rattle.mcv_spool.specs.declared.record.SpoolRecord.{SpoolRecord}
 use Rattle.mcv_spool.specs.declared.record.Stored.{Stored}
-use Rattle.mcv_world.specs.World.{Call, Spooled, is_counted_delete, put}
+use Rattle.mcv_world.specs.World.{Call, Spooled, is_counted_delete}
 use Rattle.mcv_world.specs.Moves.{Move, Taken, can_be_taken, counted_as, is_error_reply, is_move, is_one, new_call}
 use Rattle.mcv_world.proofs.Numbers.{no_some}
 use Rattle.mcv_events.specs.Events.{in_state, refused_rows}
 use Rattle.mcv_events.specs.Rows as rows
 use Rattle.mcv_events.specs.Rows.{CallRow, IsCore, LegRow, Rows, awaits, leg_of, leg_state, with_leg_row, world_of}
-use Rattle.mcv_events.specs.Runs.{OpenedRecord, opened, spooled_row}
+use Rattle.mcv_events.specs.Runs.{OpenedRecord, spooled_row}
 use Rattle.mcv_events.specs.Sums.{sum_below}
 use Rattle.mcv_core.specs.Beginning.{begun}
 use Rattle.mcv_core.specs.PlannedLegs.{legs_of_call}
 use Rattle.mcv_core.proofs.Chapters.{answer_chapter, loss_chapter, refusing_chapter, spooling_chapter}
 use Rattle.mcv_core.proofs.Dispatchers.{view_has_era, view_is_core}
 use Rattle.mcv_core.proofs.EventsLead.{Leads, begun_leads, clock_leads, effect_same, leg_leads, move_leads, next_leads, replay_leads, take_leads}
-use Rattle.mcv_core.specs.CoreView.{CoreView, Effect, HasEffect, IsQuiet, answer_at, answer_in, at_row, change_move, does, finished, flies, held, in_row_state, is_record, is_waiting, loss_at, loss_in, refused, refuses, refusing_at, refusing_in, replayed_in, sent_in, spooling_at, spooling_in, step_to, stores, taken_view, taken_row, waits_in, with_mark}
+use Rattle.mcv_core.specs.CoreView.{CoreView, Effect, HasEffect, IsQuiet, answer_at, answer_in, at_row, change_move, does, finished, held, in_row_state, is_in_spool, is_record, is_spooled, is_waiting, loss_at, loss_in, refused, refuses, refusing_at, refusing_in, replayed_in, sent_in, spooling_at, spooling_in, step_to, stores, taken_view, taken_row, waits_in, with_mark}
 use Rattle.mcv_core.specs.Events.{Happens, IsAnsweredLeg, IsBegun, IsClocked, IsLostLeg, IsMarked, IsNext, IsRefusedLeg, IsReplay, IsSpooledLeg, IsTaken, IsUnmarked, SetsClock}
+use Rattle.mcv_core.specs.Flights.{one_more}
 use Rattle.mcv_core.specs.Opening.{known_records, opened_view}
 use Rattle.mcv_core.specs.Soundness.{spooled_in, spooled_one}
 use Rattle.mcv_core.specs.Chapters.{era_move, in_era, spooled_legs, turned}
@@ -64,32 +65,45 @@ may_write_same v w e = omega (arith, ap may_write e)
 pub mark_writes : (v w : CoreView) (server : ℕ) (g : ServerFailures → ServerFailures) → w ≡ with_mark v server g → may_write w ≤ may_write v
 mark_writes v w server g e = let o = by_rows v (with_mark v server g) 0 refl refl (omega arith) in omega (arith, o, ap may_write e)
 
-pub flight_writes : (v w : CoreView) (flights : ℕ → Option ℕ) → w ≡ record v { flights = flights } → may_write w ≤ may_write v
-flight_writes v w flights e = let o = by_rows v (record v { flights = flights }) 0 refl refl (omega arith) in omega (arith, o, ap may_write e)
-
--- a leg that waits is sent
-sending_writes : (r : RoutesValue) (w : Rows) (n server : ℕ) → IsCore r w → is_waiting server (w.legs n) ≡ true → rows_may_write r (in_row_state w n rows.Sent) ≤ rows_may_write r w
-sending_writes r w n server i waits = by_leg (w.legs n) refl waits
+-- a leg is sent to its server, which leaves it as much to write
+sending_writes : (r : RoutesValue) (w : Rows) (n : ℕ) (t : rows.State) (chosen : Option LegRow → Bool) → IsCore r w → (chosen None ≡ false) → ((s : LegRow) → chosen (Some s) ≡ true → leg_may_write_in t ≡ leg_may_write_in s.state) → chosen (w.legs n) ≡ true
+    → rows_may_write r (in_row_state w n t) ≤ rows_may_write r w
+sending_writes r w n t chosen i never same it = by_leg (w.legs n) refl it
   where
-    two_of : (t : rows.State) → waits_in t ≡ true → leg_may_write_in t ≡ 2
-    two_of rows.Waiting e = refl
-    two_of rows.Sent e = refl
-    two_of rows.Held e = refl
-    two_of rows.InSpool e = absurd (true≢false (sym e))
-
-    by_leg : (o : Option LegRow) → w.legs n ≡ o → is_waiting server o ≡ true → rows_may_write r (with_leg_row w n (option_map (λ s. in_state s rows.Sent) (w.legs n))) ≤ rows_may_write r w
-    by_leg None at e = absurd (true≢false (sym e))
+    by_leg : (o : Option LegRow) → w.legs n ≡ o → chosen o ≡ true → rows_may_write r (with_leg_row w n (option_map (λ s. in_state s t) (w.legs n))) ≤ rows_may_write r w
+    by_leg None at e = absurd (true≢false (sym e ∙ never))
     by_leg (Some s) at e =
-        let t = leg_changes r w n s (option_map (λ s. in_state s rows.Sent) (w.legs n)) (leg_below r w n s i at) at in
-        let new : leg_may_write (option_map (λ s. in_state s rows.Sent) (w.legs n)) ≡ 2 = ap (λ z. leg_may_write (option_map (λ s. in_state s rows.Sent) z)) at in
-        let old : leg_may_write (Some s) ≡ 2 = two_of s.state (and_parts (nat_eq s.launch.server.0 server) (waits_in s.state) e).1 in
-        omega (arith, t, new, old)
+        let o = leg_changes r w n s (option_map (λ z. in_state z t) (w.legs n)) (leg_below r w n s i at) at in
+        let new : leg_may_write (option_map (λ z. in_state z t) (w.legs n)) ≡ leg_may_write_in t = ap (λ y. leg_may_write (option_map (λ z. in_state z t) y)) at in
+        let old : leg_may_write (Some s) ≡ leg_may_write_in t = sym (same s e) in
+        omega (arith, o, new, old)
 
-pub next_writes : (v w : CoreView) (n server : ℕ) (flights : ℕ → Option ℕ) → IsCore v.routes v.rows → IsLeast (λ m. is_waiting server (v.rows.legs m)) (Some n)
+two_of : (t : rows.State) → waits_in t ≡ true → 2 ≡ leg_may_write_in t
+two_of rows.Waiting e = refl
+two_of rows.Sent e = refl
+two_of rows.Held e = refl
+two_of rows.InSpool e = absurd (true≢false (sym e))
+two_of rows.InReplay e = absurd (true≢false (sym e))
+
+one_of : (t : rows.State) → is_in_spool t ≡ true → 1 ≡ leg_may_write_in t
+one_of rows.Waiting e = absurd (true≢false (sym e))
+one_of rows.Sent e = absurd (true≢false (sym e))
+one_of rows.Held e = absurd (true≢false (sym e))
+one_of rows.InSpool e = refl
+one_of rows.InReplay e = refl
+
+pub next_writes : (v w : CoreView) (n server : ℕ) (flights : ℕ → ℕ) → IsCore v.routes v.rows → IsLeast (λ m. is_waiting server (v.rows.legs m)) (Some n)
     → w ≡ record v { rows = in_row_state v.rows n rows.Sent; flights = flights } → may_write w ≤ may_write v
 next_writes v w n server flights i first e =
-    let sent = sending_writes v.routes v.rows n server i (first.there n refl) in
+    let sent = sending_writes v.routes v.rows n rows.Sent (is_waiting server) i refl (λ s h. two_of s.state (and_parts (nat_eq s.launch.server.0 server) (waits_in s.state) h).1) (first.there n refl) in
     let o = by_rows v (record v { rows = in_row_state v.rows n rows.Sent; flights = flights }) 0 refl refl (omega (arith, sent)) in
+    omega (arith, o, ap may_write e)
+
+pub replay_writes : (v w : CoreView) (n server : ℕ) (flights : ℕ → ℕ) → IsCore v.routes v.rows → IsLeast (λ m. is_spooled server (v.rows.legs m)) (Some n)
+    → w ≡ record v { rows = in_row_state v.rows n rows.InReplay; flights = flights } → may_write w ≤ may_write v
+replay_writes v w n server flights i first e =
+    let sent = sending_writes v.routes v.rows n rows.InReplay (is_spooled server) i refl (λ s h. one_of s.state (and_parts (nat_eq s.launch.server.0 server) (is_in_spool s.state) h).1) (first.there n refl) in
+    let o = by_rows v (record v { rows = in_row_state v.rows n rows.InReplay; flights = flights }) 0 refl refl (omega (arith, sent)) in
     omega (arith, o, ap may_write e)
 
 -- ---- events on legs
@@ -128,10 +142,11 @@ module _ (v : CoreView) (i : IsCore v.routes v.rows) (n : ℕ) (s : LegRow) (at 
   sent_writes : (g : ServerFailures → ServerFailures) (y : ReplyValue) → s.state ≡ rows.Sent → WritesAfter v (sent_in (with_mark v s.launch.server.0 g) n y s)
   sent_writes g y is = by_test v (is_counted_delete (leg_of s) && is_error_reply y) _ _ (held_writes g is) (finished_writes g y is)
 
-  replayed_writes : (g : ServerFailures → ServerFailures) (failed : Bool) → s.state ≡ rows.InSpool → WritesAfter v (replayed_in (with_mark v s.launch.server.0 g) n failed s)
+  replayed_writes : (g : ServerFailures → ServerFailures) (failed : Bool) → s.state ≡ rows.InReplay → WritesAfter v (replayed_in (with_mark v s.launch.server.0 g) n failed s)
   replayed_writes g failed is =
       let t = leg_changes v.routes v.rows n s None low at in
-      by_test v failed _ _ (by_rows v _ 0 refl refl (omega arith)) (by_rows v _ 1 refl refl (omega (arith, t, weighs rows.InSpool is)))
+      let u = leg_changes v.routes v.rows n s (Some (in_state s rows.InSpool)) low at in
+      by_test v failed _ _ (by_rows v _ 0 refl refl (omega (arith, u, weighs rows.InReplay is))) (by_rows v _ 1 refl refl (omega (arith, t, weighs rows.InReplay is)))
 
   stores_writes : (seq : ℕ) → s.state ≡ rows.Held → WritesAfter v (stores v n seq s)
   stores_writes seq is =
@@ -151,25 +166,29 @@ module _ (v : CoreView) (i : IsCore v.routes v.rows) (n : ℕ) (s : LegRow) (at 
   answer_writes_in x rows.Waiting is = tt
   answer_writes_in x rows.Sent is = sent_writes answered_mark (counted_as s.launch.op x) is
   answer_writes_in x rows.Held is = tt
-  answer_writes_in x rows.InSpool is = by_test v (flies v n s) _ _ (replayed_writes answered_mark (is_error_reply (counted_as s.launch.op x)) is) tt
+  answer_writes_in x rows.InSpool is = tt
+  answer_writes_in x rows.InReplay is = replayed_writes answered_mark (is_error_reply (counted_as s.launch.op x)) is
 
   loss_writes_in : (t : rows.State) → s.state ≡ t → WritesAfter v (loss_in v n s t)
   loss_writes_in rows.Waiting is = tt
   loss_writes_in rows.Sent is = sent_writes lost_mark (fixed_value Lost) is
   loss_writes_in rows.Held is = tt
-  loss_writes_in rows.InSpool is = by_test v (flies v n s) _ _ (replayed_writes lost_mark true is) tt
+  loss_writes_in rows.InSpool is = tt
+  loss_writes_in rows.InReplay is = replayed_writes lost_mark true is
 
   spooling_writes_in : (seq : ℕ) (its : Bool) (t : rows.State) → s.state ≡ t → WritesAfter v (spooling_in v n seq its s t)
   spooling_writes_in seq its rows.Waiting is = tt
   spooling_writes_in seq its rows.Sent is = tt
   spooling_writes_in seq its rows.Held is = by_test v its _ _ (stores_writes seq is) tt
   spooling_writes_in seq its rows.InSpool is = tt
+  spooling_writes_in seq its rows.InReplay is = tt
 
   refusing_writes_in : (t : rows.State) → s.state ≡ t → WritesAfter v (refusing_in v n s t)
   refusing_writes_in rows.Waiting is = tt
   refusing_writes_in rows.Sent is = tt
   refusing_writes_in rows.Held is = refused_writes
   refusing_writes_in rows.InSpool is = tt
+  refusing_writes_in rows.InReplay is = tt
 
 by_row : (v : CoreView) (f : LegRow → Effect) (n : ℕ) → ((s : LegRow) → v.rows.legs n ≡ Some s → WritesAfter v (f s)) → WritesAfter v (at_row f (v.rows.legs n))
 by_row v f n h = by (v.rows.legs n) refl
@@ -227,20 +246,27 @@ clock_writes_less v w moment since forward e other = let o = one_break_less v.ro
 pub turn_writes : (v w : CoreView) (chapter entries : ℕ) → w ≡ record v { chapter = chapter; entries = entries } → may_write w ≤ may_write v
 turn_writes v w chapter entries e = let o = by_rows v (record v { chapter = chapter; entries = entries }) 0 refl refl (omega arith) in omega (arith, o, ap may_write e)
 
+one_each : (t : rows.State) → leg_state t ≡ Spooled → leg_may_write_in t ≡ spooled_in t
+one_each rows.Waiting e = absurd cc
+one_each rows.Sent e = absurd cc
+one_each rows.Held e = absurd cc
+one_each rows.InSpool e = refl
+one_each rows.InReplay e = refl
+
 -- no call runs and each leg is in the spool
 calls_write_nothing : (r : RoutesValue) (calls : ℕ → Option CallRow) (n : ℕ) → ((k : ℕ) → calls k ≡ None) → sum_below (call_may_write r) calls n ≡ 0
 calls_write_nothing r calls zero none = refl
 calls_write_nothing r calls (suc n) none = let e = calls_write_nothing r calls n none in let z : call_may_write r (calls n) ≡ 0 = ap (call_may_write r) (none n) in omega (arith, e, z)
 
-legs_write_one : (legs : ℕ → Option LegRow) (n : ℕ) → ((m : ℕ) (s : LegRow) → legs m ≡ Some s → s.state ≡ rows.InSpool) → sum_below leg_may_write legs n ≡ sum_below spooled_one legs n
+legs_write_one : (legs : ℕ → Option LegRow) (n : ℕ) → ((m : ℕ) (s : LegRow) → legs m ≡ Some s → leg_state s.state ≡ Spooled) → sum_below leg_may_write legs n ≡ sum_below spooled_one legs n
 legs_write_one legs zero all = refl
 legs_write_one legs (suc n) all = let e = legs_write_one legs n all in let z = by (legs n) refl in omega (arith, e, z)
   where
     by : (o : Option LegRow) → legs n ≡ o → leg_may_write o ≡ spooled_one o
     by None at = refl
-    by (Some s) at = let q = all n s at in ap leg_may_write_in q ∙ sym (ap spooled_in q)
+    by (Some s) at = one_each s.state (all n s at)
 
-at_rest : (v : CoreView) → ((k : ℕ) → v.rows.calls k ≡ None) → ((m : ℕ) (s : LegRow) → v.rows.legs m ≡ Some s → s.state ≡ rows.InSpool) → may_write v ≤ spooled_legs v.rows + break_count v.routes
+at_rest : (v : CoreView) → ((k : ℕ) → v.rows.calls k ≡ None) → ((m : ℕ) (s : LegRow) → v.rows.legs m ≡ Some s → leg_state s.state ≡ Spooled) → may_write v ≤ spooled_legs v.rows + break_count v.routes
 unfolding may_write
 at_rest v calls legs =
     let a = calls_write_nothing v.routes v.rows.calls v.rows.next_call calls in
@@ -252,15 +278,9 @@ no_call : (o : Option CallRow) → option_map (λ c. c.call) o ≡ None → o �
 no_call None e = refl
 no_call (Some c) e = no_some (sym e)
 
-in_spool : (t : rows.State) → leg_state t ≡ Spooled → t ≡ rows.InSpool
-in_spool rows.Waiting e = absurd cc
-in_spool rows.Sent e = absurd cc
-in_spool rows.Held e = absurd cc
-in_spool rows.InSpool e = refl
-
 pub quiet_writes : (v w : CoreView) (chapter : ℕ) → IsQuiet w → w ≡ record v { chapter = chapter; entries = spooled_legs v.rows } → may_write w ≤ w.entries + break_count w.routes
 quiet_writes v w chapter q e =
-    let o = at_rest w (λ k. no_call (w.rows.calls k) (q.0.calls k)) (λ m s at. in_spool s.state (q.0.spooled m (leg_of s) (ap (option_map leg_of) at))) in
+    let o = at_rest w (λ k. no_call (w.rows.calls k) (q.0.calls k)) (λ m s at. q.0.spooled m (leg_of s) (ap (option_map leg_of) at)) in
     let same : spooled_legs w.rows ≡ w.entries = ap (λ z. spooled_legs z.rows) e ∙ sym (ap (λ z. z.entries) e) in
     omega (arith, o, same)
 
@@ -333,12 +353,13 @@ unbegun_goes d w chosen request key fault m h = same_goes (core_view d) w m h.no
 pub next_goes : (d : Dispatcher) (w : CoreView) (server : ServerId) (r : Result LegId CoreFault) (m : Option Move) → IsNext (core_view d) server r m w → Goes (core_view d) w m
 next_goes d w server (Ok leg) m h =
     none_goes (core_view d) w m h.none (next_leads (core_view d) server (Ok leg) m w h) (ap (λ z. z.chapter) h.view)
-    (next_writes (core_view d) w leg.0 server.0 (put (core_view d).flights server.0 (Some leg.0)) (view_is_core d) h.first h.view)
+    (next_writes (core_view d) w leg.0 server.0 (one_more (core_view d).flights server.0) (view_is_core d) h.first h.view)
 next_goes d w server (Err fault) m h = same_goes (core_view d) w m h.none h.same (next_leads (core_view d) server (Err fault) m w h)
 
 pub replay_goes : (d : Dispatcher) (w : CoreView) (server : ServerId) (r : Result LegId CoreFault) (m : Option Move) → IsReplay (core_view d) server r m w → Goes (core_view d) w m
 replay_goes d w server (Ok leg) m h =
-    none_goes (core_view d) w m h.none (replay_leads (core_view d) server (Ok leg) m w h) (ap (λ z. z.chapter) h.view) (flight_writes (core_view d) w (put (core_view d).flights server.0 (Some leg.0)) h.view)
+    none_goes (core_view d) w m h.none (replay_leads (core_view d) server (Ok leg) m w h) (ap (λ z. z.chapter) h.view)
+    (replay_writes (core_view d) w leg.0 server.0 (one_more (core_view d).flights server.0) (view_is_core d) h.first h.view)
 replay_goes d w server (Err fault) m h = same_goes (core_view d) w m h.none h.same (replay_leads (core_view d) server (Err fault) m w h)
 
 module _ (e : Effect) (leg : LegId) (x : ReplyValue) (v : CoreView) where

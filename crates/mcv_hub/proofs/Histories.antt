@@ -256,15 +256,14 @@ module _ {start : CoreView} (v w : CoreView) (es : List Entry) (c b t bb tb len 
 
   -- a chapter that began
   pub turn_holds : (es' : List Entry) (c' places' bb' tb' len' capacity' : ℕ) → w.routes ≡ v.routes → IsQuiet w → 0 < c' → c' ≡ w.chapter → bb' ≡ b → tb' ≡ t → bb' < 2 ^ 63 → tb' < 2 ^ 63 → may_write w ≤ may_write v → places' ≤ places
-      → (places' ≡ places) ⊎ (may_write w ≤ places') → es' ≡ [] → len' ≡ 0 → capacity' ≡ capacity → Holds start w es' c' b t bb' tb' len' capacity' places' breaks
-  turn_holds es' c' places' bb' tb' len' capacity' same q later chapter begun taken small few less lesser either empty zero kept_same = (
+      → (places' ≡ places) ⊎ (may_write w ≤ places') → es' ≡ [] → len' ≡ 0 → places' ≤ capacity' → Holds start w es' c' b t bb' tb' len' capacity' places' breaks
+  turn_holds es' c' places' bb' tb' len' capacity' same q later chapter begun taken small few less lesser either empty zero kept = (
     subst (λ z. IsHub w z c' b t bb' tb') (sym empty) (hub_after_turn v w c' b t bb' tb' h.0.covered same q chapter begun taken small few),
     let within = h.1.within in
-        let kept = h.1.kept in
         let least = h.1.small in
         record {
           within = elim either [ inl e ↦ omega (arith, within, less, zero, e) | inr e ↦ omega (arith, zero, e) ];
-          kept = omega (arith, kept, lesser, kept_same);
+          kept = kept;
           small = omega (arith, least, lesser);
         },
     h.2 ∙ ap break_count (sym same),
@@ -468,9 +467,9 @@ uncalled_event old new call fault is no_call same history b t chapter =
 
 -- ---- chapters
 
-pub chapter_begins : (old new : HubView) (m : Option Move) → Turns (core_view old.core) m (core_view new.core) → new.history ≡ [] → new.chapter ≡ old.chapter + 1 → new.begun ≡ old.begun → new.taken ≡ old.taken → new.begun_before ≡ old.begun → new.taken_before ≡ old.taken
+pub chapter_begins : (old new : HubView) (m : Option Move) → Turns (core_view old.core) m (core_view new.core) → new.history ≡ [] → new.hub ≡ old.hub → new.chapter ≡ old.chapter + 1 → new.entries_before ≡ (core_view new.core).entries → new.begun ≡ old.begun → new.taken ≡ old.taken → new.begun_before ≡ old.begun → new.taken_before ≡ old.taken
     → old.begun < 2 ^ 63 → old.taken < 2 ^ 63 → BeginsChapter old new
-chapter_begins old new m h history chapter b t bb tb few_begun few_taken =
+chapter_begins old new m h history hub chapter before b t bb tb few_begun few_taken =
     let v : CoreView = core_view old.core in
     let w : CoreView = core_view new.core in
     record {
@@ -479,7 +478,9 @@ chapter_begins old new m h history chapter b t bb tb few_begun few_taken =
       opening =
           subst (λ es. IsHistoryFrom w.routes (world_of v.rows) (world_of w.rows) es) (sym history)
           (subst (λ o. IsHistoryFrom w.routes o (world_of w.rows) []) h.does.world (record { moves = []; are = none; opens = h.quiet.0; legal = tt; replays = h.quiet.1 }));
+      hub = hub;
       chapter = chapter;
+      entries_before = before;
       begun = b;
       taken = t;
       begun_before = bb;

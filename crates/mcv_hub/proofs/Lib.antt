@@ -5,3 +5,8 @@ mod EventsMayWrite
 mod Histories
 mod CheckedReceipts
 mod AskedCalls
+mod DueChapters
+mod AddedWeights
+pub mod Books
+pub mod Crossing
+mod Examples

@@ -51,8 +51,9 @@ abbrev pub taken_part : Result (Option TakenReply) CoreFault → Result (Option 
 taken_part (Ok o) = Ok (option_map (λ t. t.reply) o)
 taken_part (Err fault) = Err fault
 
--- the receipt names the call, and the entry that is written; what is handed out is the call's
+-- the receipt names the hub, the call, and the entry that is written; what is handed out is the call's
 pub record IsReceived (v : HubView) (call : CallId) (t : TakenReply) : Type 0 where
+  pub hub : t.receipt.hub ≡ v.hub
   pub chapter : t.receipt.chapter ≡ v.chapter
   pub entry : t.receipt.entry ≡ length v.history
   pub call_is : t.receipt.call ≡ call
@@ -66,7 +67,9 @@ pub record BeginsChapter (old new : HubView) : Type 0 where
   pub turns : Turns (core_view old.core) None (core_view new.core)
   pub history : new.history ≡ []
   pub opening : LeadsFrom new (world_of (core_view old.core).rows)
+  pub hub : new.hub ≡ old.hub
   pub chapter : new.chapter ≡ old.chapter + 1
+  pub entries_before : new.entries_before ≡ (core_view new.core).entries
   pub begun : new.begun ≡ old.begun
   pub taken : new.taken ≡ old.taken
   pub begun_before : new.begun_before ≡ old.begun
@@ -79,7 +82,3 @@ pub record IsBusyChapter (old new : HubView) (fault : CoreFault) : Type 0 where
   pub busy : fault ≡ Busy
   pub cause : CanTurn (core_view old.core) → (2 ^ 63 ≤ old.begun) ⊎ (2 ^ 63 ≤ old.taken)
   pub same : IsSame old new
-
-abbrev pub IsHubTurn : HubView → Result (Unit {0}) CoreFault → HubView → Type 0
-IsHubTurn old (Ok done) new = BeginsChapter old new
-IsHubTurn old (Err fault) new = IsBusyChapter old new fault

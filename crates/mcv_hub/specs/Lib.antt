@@ -3,3 +3,6 @@ pub mod History
 pub mod State
 pub mod Receipts
 pub mod Events
+pub mod Weights
+pub mod Gate
+pub mod Seats

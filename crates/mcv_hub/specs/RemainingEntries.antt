@@ -20,6 +20,7 @@ leg_may_write_in rows.Waiting = 2
 leg_may_write_in rows.Sent = 2
 leg_may_write_in rows.Held = 2
 leg_may_write_in rows.InSpool = 1
+leg_may_write_in rows.InReplay = 1
 
 abbrev pub leg_may_write : Option LegRow → ℕ
 leg_may_write None = 0

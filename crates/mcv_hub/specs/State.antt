@@ -19,7 +19,11 @@ pub record HubView : Type 0 where
   pub core : Dispatcher
   -- of this chapter
   pub history : List Entry
+  -- the numbers of the hub and of the chapter
+  pub hub : ℕ
   pub chapter : ℕ
+  -- how many entries its legs in the spool might write when the chapter began
+  pub entries_before : ℕ
   -- the books of calls begun and of replies taken
   pub begun : ℕ
   pub taken : ℕ
@@ -59,9 +63,11 @@ IsOf opened v = IsOpenedAs opened (core_view v.core) v.history v.chapter
 
 -- ---- what an event leaves
 
--- the same chapter
+-- the same chapter of the same hub
 pub record IsSameChapter (old new : HubView) : Type 0 where
+  pub hub : new.hub ≡ old.hub
   pub chapter : new.chapter ≡ old.chapter
+  pub entries_before : new.entries_before ≡ old.entries_before
   pub begun_before : new.begun_before ≡ old.begun_before
   pub taken_before : new.taken_before ≡ old.taken_before
 

@@ -2,15 +2,18 @@
 
 ghost use Rattle.std.specs.Prelude.{◌≡◌, ◌+◌, IfOk, OnOk, IfErr, IfSome, count_by};
 ghost use Rattle.std.specs.Arc.{arc_value};
-ghost use Rattle.mcv_pools.specs.Hash.{fnv_index};
-ghost use Rattle.mcv_core.specs.Events.{IsAnsweredLeg, IsBegun, IsClocked, IsLostLeg, IsMarked, IsNext, IsRefusedLeg, IsReplay, IsSpooledLeg, IsTaken, IsUnmarked};
+ghost use Rattle.mcv_core.specs.Events.{IsAnsweredLeg, IsClocked, IsLostLeg, IsMarked, IsNext, IsRefusedLeg, IsReplay, IsSpooledLeg, IsTaken, IsUnmarked};
 ghost use Rattle.mcv_core.specs.View.{core_view};
-ghost use Rattle.mcv_hub.specs.Events.{IsHubEvent, IsHubTurn, IsReceived, IsRequested, taken_part};
+ghost use Rattle.mcv_hub.specs.Events.{IsHubEvent, IsReceived, IsRequested, taken_part};
+ghost use Rattle.mcv_hub.specs.Gate.{IsGate, IsHubBegun, IsHubTurn, is_chapter_due};
 ghost use Rattle.mcv_hub.specs.History.{is_began, is_taken};
 ghost use Rattle.mcv_hub.specs.Receipts.{ArePassed, AreRefused};
 ghost use Rattle.mcv_hub.specs.State.{HistoryKeepsDeletes, IsOf, IsSame};
+ghost use Rattle.mcv_hub.specs.Weights.{bytes_of};
 
 use crate::entry::Entry;
+use crate::gate::Gate;
+use crate::history::Past;
 use crate::ledger::HubLedger;
 use crate::pass::Pass;
 use crate::receipts::{Receipt, ReceiptFault, Report};
@@ -23,7 +26,7 @@ use mcv_spool::Stored;
 use std::alloc::Global;
 use std::marker::{Model, PhantomData};
 use std::rt::Clock;
-use std::sync::ledger::{Ledger, Share};
+use std::sync::ledger::Ledger;
 use std::sync::{Arc, Condvar, CondvarTimeouts, MutexGuard, Wait};
 use std::time::Duration;
 
@@ -90,8 +93,35 @@ impl<'a, B: HubLedger, T: Ledger> Guard<'a, B, T> {
         self.state.core()
     }
 
+    /// Whether the next chapter is due: this one has gained half the entries for which it had room when it began, or its
+    /// history holds 64 MiB.
+    pub fn is_due(&self) -> bool
+        ensures { result ≡ is_chapter_due self.now }
+    {
+        self.state.is_due()
+    }
+
+    /// How a call that wants to begin finds the chapter: where the next one is due, and can begin, it begins.
+    pub fn gate(&mut self, alloc: Global) -> Gate
+        ensures { IsGate self.old result self.new }
+    {
+        self.state.gate(alloc)
+    }
+
+    /// Whether a call has waited for the next chapter in vain, in this one; once this one is nearly full, whether a second has.
+    pub(crate) fn was_awaited_in_vain(&self) -> bool {
+        self.state.was_awaited_in_vain()
+    }
+
+    /// A call has waited for the next chapter in vain.
+    pub(crate) fn note_vain_wait(&mut self)
+        ensures { IsSame self.old self.new }
+    {
+        self.state.note_vain_wait()
+    }
+
     /// Begins a call for one key of the request, counted from 0, and counts it in the seat's share. An error is that of the
-    /// core, and Memory where the history gets no room.
+    /// core, ChapterFull also where the history holds more than 256 MiB, and Memory where it gets no room.
     pub fn begin(
         &mut self,
         alloc: Global,
@@ -99,7 +129,7 @@ impl<'a, B: HubLedger, T: Ledger> Guard<'a, B, T> {
         request: Arc<Request>,
         key: usize,
     ) -> Result<CallId, CoreFault>
-        ensures event { IsHubEvent (IsBegun (core_view self.old.core) fnv_index (arc_value request) key result) self.old self.new }
+        ensures event { IsHubBegun self.old (arc_value request) key result self.new }
         ensures entry { OnOk result (IsRequested self.old self.new request key) }
         ensures begun { seat.new.begun.amount + self.old.begun ≡ seat.old.begun.amount + self.new.begun }
         ensures taken { seat.new.taken.amount + self.old.taken ≡ seat.old.taken.amount + self.new.taken }
@@ -192,13 +222,13 @@ impl<'a, B: HubLedger, T: Ledger> Guard<'a, B, T> {
         self.state.clock(moment)
     }
 
-    /// A new chapter begins, with an empty history, where no call runs, no leg is queued and none is in replay. It takes no
-    /// memory. An error is Busy; it comes also where 2^63 calls were begun or replies taken, or no chapter has a greater
-    /// number.
-    pub fn turn(&mut self) -> Result<(), CoreFault>
+    /// A new chapter begins, with an empty history, where no call runs, no leg is queued and none is in replay, and what is
+    /// left of the old one is given. An error is Busy; it comes also where 2^63 calls were begun or replies taken, or no
+    /// chapter has a greater number.
+    pub fn turn(&mut self, alloc: Global) -> Result<Past, CoreFault>
         ensures { IsHubTurn self.old result self.new }
     {
-        self.state.turn()
+        self.state.turn(alloc)
     }
 
     /// How many calls were begun and replies taken in all chapters, where all receipts that aren't of earlier chapters
@@ -206,20 +236,19 @@ impl<'a, B: HubLedger, T: Ledger> Guard<'a, B, T> {
     pub fn close(
         &mut self,
         alloc: Global,
-        begun: &mut Share<B>,
-        taken: &mut Share<T>,
+        seat: &mut Seat<B, T>,
         receipts: &[Receipt],
     ) -> Result<Report, ReceiptFault>
         ensures begun { IfOk result (λ p. p.begun ≡ self.old.begun) }
         ensures taken { IfOk result (λ p. p.taken ≡ self.old.taken) }
-        ensures all_begun { begun.old.parts ≡ B.parts → self.old.begun ≡ begun.old.amount }
-        ensures all_taken { taken.old.parts ≡ T.parts → self.old.taken ≡ taken.old.amount }
-        ensures passed { IfOk result (λ p. ArePassed self.old.chapter self.old.history receipts.now p.older) }
-        ensures err { IfErr result (AreRefused self.old.chapter self.old.history receipts.now) }
-        ensures shares { (begun.new.amount ≡ begun.old.amount) × (taken.new.amount ≡ taken.old.amount) × (begun.new.parts ≡ begun.old.parts) × (taken.new.parts ≡ taken.old.parts) }
+        ensures all_begun { seat.old.begun.parts ≡ B.parts → self.old.begun ≡ seat.old.begun.amount }
+        ensures all_taken { seat.old.taken.parts ≡ T.parts → self.old.taken ≡ seat.old.taken.amount }
+        ensures passed { IfOk result (λ p. ArePassed self.old.hub self.old.chapter self.old.history receipts.now p.older) }
+        ensures err { IfErr result (AreRefused self.old.hub self.old.chapter self.old.history receipts.now) }
+        ensures shares { (seat.new.begun.amount ≡ seat.old.begun.amount) × (seat.new.taken.amount ≡ seat.old.taken.amount) × (seat.new.begun.parts ≡ seat.old.begun.parts) × (seat.new.taken.parts ≡ seat.old.taken.parts) }
         ensures same { IsSame self.old self.new }
     {
-        self.state.close(alloc, begun, taken, receipts)
+        self.state.close(alloc, seat, receipts)
     }
 
     /// The entries of the chapter, the oldest first. Each book is what it was when the chapter began, and one for each
@@ -230,6 +259,13 @@ impl<'a, B: HubLedger, T: Ledger> Guard<'a, B, T> {
         ensures taken { self.now.taken ≡ self.now.taken_before + count_by is_taken result.now }
     {
         self.state.history()
+    }
+
+    /// The bytes that the history holds.
+    pub fn bytes(&self) -> u64
+        ensures { result ≡ bytes_of self.now.history }
+    {
+        self.state.bytes()
     }
 
     /// Deletes are kept in the world that the history leads to, and the core's calls and legs are what is left of it.
@@ -244,5 +280,12 @@ impl<'a, B: HubLedger, T: Ledger> Guard<'a, B, T> {
         ensures { IsOf B.opened self.now }
     {
         self.state.is_opened()
+    }
+
+    /// The hub has the number of its ledger, which is the one that its receipts name.
+    pub fn is_numbered(&self)
+        ensures { self.now.hub ≡ B.number }
+    {
+        self.state.is_numbered()
     }
 }

@@ -2,11 +2,11 @@
 
 ghost use Rattle.std.specs.Prelude.{◌≡◌, ◌+◌, IfErr, IfOk};
 ghost use Rattle.std.specs.Arc.{arc_value};
-ghost use Rattle.std.specs.Coded.{Coded-set};
 ghost use Rattle.mcv_core.specs.Opening.{opened_view};
+ghost use Rattle.mcv_hub.specs.Gate.{is_closed, is_chapter_due};
 ghost use Rattle.mcv_core.specs.declared.fault.CoreFault.TheVariants.{Memory as OutOfMemory};
-ghost use Rattle.mcv_route.specs.Codes.{routes_code};
 
+use crate::gate::Gate;
 use crate::guard::Guard;
 use crate::ledger::HubLedger;
 use crate::pass::{Pass, Passes};
@@ -18,17 +18,21 @@ use mcv_route::Routes;
 use mcv_spool::SpoolRecord;
 use std::alloc::{AllocError, Global};
 use std::hint::spin_loop;
+use std::marker::Model;
 use std::rt::Clock;
 use std::sync::ledger::{Blank, Ledger};
 use std::sync::{Arc, Condvar, Mutex, Wait};
-use std::time::Duration;
+use std::time::{Duration, Instant};
+
+/// How long a call that waits for the next chapter sleeps at most, in milliseconds, until it looks again, should nobody ring.
+const PAUSE: u64 = 10;
 
 /// How often the lock is tried before a thread sleeps until it is free: for four microseconds or more.
 const TRIES: u32 = 400;
 
 /// What a thread waits for: a leg for a server's worker, the reply to a call for a session, a record for the spool's
-/// worker, a leg in the spool for the replayer, the end of all calls and legs for a session whose call found no place
-/// in the chapter.
+/// worker, a leg in the spool for the replayer, the end of all calls and legs, or the next chapter, for a session that wants
+/// to begin a call while that chapter is due.
 #[derive(Clone, Copy, PartialEq, Eq)]
 pub enum Bell {
     Server(ServerId),
@@ -39,7 +43,7 @@ pub enum Bell {
 }
 
 /// The state that threads share: one lock, and beside it a bell for each server's worker, bells for calls that sessions
-/// await, one for the spool's worker, one for the replayer and one for a new chapter.
+/// await, one for the spool's worker, one for the replayer and one for a new chapter. Clauses see its routes.
 #[derive(Drop)]
 pub struct Hub<B: HubLedger, T: Ledger> {
     accepted: Arc<Accepted>,
@@ -49,7 +53,21 @@ pub struct Hub<B: HubLedger, T: Ledger> {
     spool: Condvar,
     replayer: Condvar,
     chapter: Condvar,
-    ghost routes: { arc_value accepted ≡ B.opened.routes } by { Coded-set routes_code (arc_value accepted) B.opened.routes },
+}
+
+impl<B: HubLedger, T: Ledger> Model for Hub<B, T> {
+    ghost use Rattle.std.specs.Prelude.{◌≡◌};
+    ghost use Rattle.std.specs.Arc.{arc_value};
+    ghost use Rattle.mcv_route.specs.Codes.{routes_code};
+    ghost use Rattle.mcv_route.specs.Routes.{RoutesValue};
+
+    ghost Value = { RoutesValue };
+
+    ghost coded = { routes_code };
+
+    ghost view = { λ h. arc_value h.accepted };
+
+    ghost invariant = { λ h. arc_value h.accepted ≡ B.opened.routes };
 }
 
 /// As many bells as asked.
@@ -61,34 +79,67 @@ fn bells(alloc: Global, count: usize) -> Result<Vec<Condvar>, AllocError> {
     Ok(bells)
 }
 
+/// How many there are to be of what a hub begins with.
+#[derive(Clone, Copy, Debug, PartialEq, Eq)]
+pub struct Capacity {
+    /// How many bells sessions wait at.
+    pub bells: usize,
+    /// How many seats there are for sessions.
+    pub seats: u64,
+}
+
+/// How long a call waits for the next chapter.
+#[derive(Clone, Copy)]
+struct Patience {
+    most: Duration,
+    since: Option<Instant>,
+}
+
+impl Patience {
+    /// Whether it is over; a call begins to wait where this is asked first. Where the clock can't be read it is.
+    fn is_over<R: Clock>(&mut self, rt: &R) -> bool {
+        let Ok(now) = Instant::now(rt) else {
+            return true;
+        };
+        match self.since {
+            Some(since) => now.duration_since(since) >= self.most,
+            None => {
+                self.since = Some(now);
+                false
+            }
+        }
+    }
+}
+
 impl<B: HubLedger, T: Ledger> Hub<B, T> {
-    /// A hub over these routes with the records that the spool held, in its first chapter, with bells for their servers
-    /// and for this many sessions, and what makes its passes and `seats` seats. The one error is Memory.
+    /// The hub of this number over these routes, with the records that the spool held, in its first chapter, with bells for
+    /// their servers and for sessions, and what makes its passes and seats. The one error is Memory.
     pub fn new(
         alloc: Global,
         accepted: Arc<Accepted>,
+        hub: usize,
         records: &[(u64, SpoolRecord)],
-        sessions: usize,
-        seats: u64,
+        capacity: Capacity,
         begun: Blank,
         taken: Blank,
     ) -> Result<(Hub<B, T>, Passes<B, T>), CoreFault>
-        requires begun { (begun.name ≡ B.name) × (begun.parts ≡ B.parts) × (begun.parts ≡ seats + 1) }
-        requires taken { (taken.name ≡ T.name) × (taken.parts ≡ T.parts) × (taken.parts ≡ seats + 1) }
+        requires begun { (begun.name ≡ B.name) × (begun.parts ≡ B.parts) × (begun.parts ≡ capacity.seats + 1) }
+        requires taken { (taken.name ≡ T.name) × (taken.parts ≡ T.parts) × (taken.parts ≡ capacity.seats + 1) }
+        requires number { hub ≡ B.number }
         requires opened { B.opened ≡ opened_view (arc_value accepted) records.now }
-        ensures seats { IfOk result (λ r. r.1.left ≡ seats) }
+        ensures seats { IfOk result (λ r. r.1.left ≡ capacity.seats) }
         ensures err { IfErr result (λ fault. fault ≡ OutOfMemory) }
     {
         let Ok(servers) = bells(alloc, accepted.routes().servers().len()) else {
             return Err(CoreFault::Memory);
         };
-        let Ok(calls) = bells(alloc, sessions) else {
+        let Ok(calls) = bells(alloc, capacity.bells) else {
             return Err(CoreFault::Memory);
         };
         let Ok(known) = Arc::try_clone(&accepted) else {
             return Err(CoreFault::Memory);
         };
-        let (state, begun, taken) = HubState::new(alloc, known, records, begun, taken)?;
+        let (state, begun, taken) = HubState::new(alloc, known, hub, records, begun, taken)?;
         let hub = Hub {
             accepted,
             state: Mutex::new(state),
@@ -98,7 +149,7 @@ impl<B: HubLedger, T: Ledger> Hub<B, T> {
             replayer: Condvar::new(),
             chapter: Condvar::new(),
         };
-        Ok((hub, Passes::new(seats, begun, taken)))
+        Ok((hub, Passes::new(capacity.seats, begun, taken)))
     }
 
     /// The routes with which it was opened.
@@ -133,6 +184,35 @@ impl<B: HubLedger, T: Ledger> Hub<B, T> {
         most: Duration,
     ) -> Guard<'a, B, T> {
         guard.wait_at_for(rt, self.bell(bell), most)
+    }
+
+    /// Waits until a call may begin: where the next chapter is due, until nothing is left of this one. The first that finds
+    /// nothing left begins the next chapter (Turned), and is to ring that bell once it has let go of the lock. A call that has
+    /// waited for as long as this in vain (Closed) begins in this chapter, and so do all others at once; when three quarters of
+    /// it are taken they wait once more, since slow calls may have ended meanwhile.
+    pub fn enter<'a, R: Wait + Clock>(
+        &self,
+        rt: &R,
+        alloc: Global,
+        guard: Guard<'a, B, T>,
+        most: Duration,
+    ) -> (Guard<'a, B, T>, Gate)
+        ensures { is_chapter_due result.0 ≡ is_closed result.1 }
+    {
+        let mut guard = guard;
+        let mut patience = Patience { most, since: None };
+        for _attempt in rt.forever() {
+            let gate = guard.gate(alloc);
+            if !gate.is_closed() || guard.was_awaited_in_vain() {
+                return (guard, gate);
+            }
+            if patience.is_over(rt) {
+                guard.note_vain_wait();
+                return (guard, gate);
+            }
+            guard = self.wait_for(rt, guard, Bell::Chapter, Duration::from_millis(PAUSE));
+        }
+        unreachable!()
     }
 
     /// The condition variable of a bell. Calls whose numbers have one remainder by the number of their bells share one;

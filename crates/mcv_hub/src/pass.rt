@@ -3,7 +3,7 @@
 ghost use Rattle.std.specs.Prelude.{◌≡◌, ◌+◌, IfNone, IfSome};
 
 use crate::seat::Seat;
-use std::marker::PhantomData;
+use std::marker::{Model, PhantomData};
 use std::sync::ledger::{Ledger, Share};
 
 /// The right to get the lock, or to ask a server outside of it, one at a time. It can't be copied.
@@ -12,16 +12,23 @@ pub struct Pass {
     alone: PhantomData<()>,
 }
 
-/// Makes the passes of workers and sessions, and the seats of sessions.
+/// Makes the passes of workers and sessions, and the seats of sessions. Clauses see how many seats are left, and of what.
 #[derive(Drop)]
 pub struct Passes<B: Ledger, T: Ledger> {
     left: u64,
     begun: Share<B>,
     taken: Share<T>,
-    ghost begun_left: { begun.parts ≡ left + 1 },
-    ghost taken_left: { taken.parts ≡ left + 1 },
-    ghost begun_none: { begun.amount ≡ 0 },
-    ghost taken_none: { taken.amount ≡ 0 },
+}
+
+impl<B: Ledger, T: Ledger> Model for Passes<B, T> {
+    ghost use Rattle.std.specs.Prelude.{◌≡◌, ◌+◌};
+    ghost use Rattle.mcv_hub.specs.Seats.{PassesView};
+
+    ghost Value = { PassesView };
+
+    ghost view = { λ p. record { left = p.left; begun = record { amount = p.begun.amount; parts = p.begun.parts }; taken = record { amount = p.taken.amount; parts = p.taken.parts } } };
+
+    ghost invariant = { λ p. (p.begun.parts ≡ p.left + 1) × (p.taken.parts ≡ p.left + 1) × (p.begun.amount ≡ 0) × (p.taken.amount ≡ 0) };
 }
 
 impl<B: Ledger, T: Ledger> Passes<B, T> {
@@ -32,6 +39,13 @@ impl<B: Ledger, T: Ledger> Passes<B, T> {
         ensures left { result.left ≡ left }
     {
         Passes { left, begun, taken }
+    }
+
+    /// How many seats are left.
+    pub fn left(&self) -> u64
+        ensures { result ≡ self.now.left }
+    {
+        self.left
     }
 
     /// A pass for one worker or session.
@@ -50,10 +64,9 @@ impl<B: Ledger, T: Ledger> Passes<B, T> {
         if self.left == 0 {
             return None;
         }
-        let Passes { left, begun, taken } = self;
-        let begun = begun.split_off(1, 0);
-        let taken = taken.split_off(1, 0);
-        *left -= 1;
+        let begun = self.begun.split_off(1, 0);
+        let taken = self.taken.split_off(1, 0);
+        self.left -= 1;
         Some(Seat { begun, taken })
     }
 

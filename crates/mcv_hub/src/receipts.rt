@@ -11,6 +11,8 @@ use thiserror::Error;
 /// Where in the history of a chapter the reply to a call was taken.
 #[derive(Clone, Copy, Debug, PartialEq, Eq)]
 pub struct Receipt {
+    /// The number of the hub, from 0.
+    pub hub: usize,
     /// The number of the chapter, from 0.
     pub chapter: u64,
     /// The number of the entry in the chapter, from 0.
@@ -40,24 +42,29 @@ pub enum ReceiptFault {
     Memory = 3,
 }
 
-/// Whether a receipt is one of an earlier chapter. Any other one is good, names an entry that wasn't seen before, and is
+/// Whether a receipt is one of an earlier chapter of the hub. Any other one is good, names an entry that wasn't seen before, and is
 /// seen now.
+#[tactic(auto, using(crate::proofs::CheckedReceipts::is_of_earlier, crate::proofs::CheckedReceipts::is_of_other_hub, crate::proofs::CheckedReceipts::isnt_of_earlier))]
 fn check_receipt(
     history: &[Entry],
+    hub: usize,
     chapter: u64,
     seen: &mut Vec<bool>,
     receipt: Receipt,
 ) -> Result<bool, ReceiptFault>
     requires { length seen.old.items ≡ length history.now }
-    ensures older { IfOk result (λ older. older ≡ is_older chapter receipt) }
+    ensures older { IfOk result (λ older. older ≡ is_older hub chapter receipt) }
     ensures skipped { IfOk result (λ older. older ≡ true → seen.new.items ≡ seen.old.items) }
-    ensures good { IfOk result (λ older. older ≡ false → IsGood chapter history.now receipt) }
+    ensures good { IfOk result (λ older. older ≡ false → IsGood hub chapter history.now receipt) }
     ensures marks { IfOk result (λ older. older ≡ false → (slice_get seen.old.items receipt.entry ≡ Some false) × (seen.new.items ≡ slice_set seen.old.items receipt.entry true)) }
     ensures len { length seen.new.items ≡ length history.now }
-    ensures stranger { IfErr result (λ fault. fault ≡ ReceiptFault.Stranger → (is_older chapter receipt ≡ false) × (IsGood chapter history.now receipt → ⊥)) }
-    ensures twice { IfErr result (λ fault. fault ≡ ReceiptFault.Twice → (receipt.chapter ≡ chapter) × (slice_get seen.old.items receipt.entry ≡ Some true)) }
+    ensures stranger { IfErr result (λ fault. fault ≡ ReceiptFault.Stranger → (is_older hub chapter receipt ≡ false) × (IsGood hub chapter history.now receipt → ⊥)) }
+    ensures twice { IfErr result (λ fault. fault ≡ ReceiptFault.Twice → (receipt.hub ≡ hub) × (receipt.chapter ≡ chapter) × (slice_get seen.old.items receipt.entry ≡ Some true)) }
     ensures memory { IfErr result (λ fault. fault ≢ ReceiptFault.Memory) }
 {
+    if receipt.hub != hub {
+        return Err(ReceiptFault::Stranger);
+    }
     if receipt.chapter < chapter {
         return Ok(true);
     }
@@ -93,18 +100,19 @@ fn no_marks(alloc: Global, count: usize) -> Result<Vec<bool>, AllocError>
 pub(crate) fn count_older(
     alloc: Global,
     history: &[Entry],
+    hub: usize,
     chapter: u64,
     receipts: &[Receipt],
 ) -> Result<u64, ReceiptFault>
-    ensures passed { IfOk result (ArePassed chapter history.now receipts.now) }
-    ensures err { IfErr result (AreRefused chapter history.now receipts.now) }
+    ensures passed { IfOk result (ArePassed hub chapter history.now receipts.now) }
+    ensures err { IfErr result (AreRefused hub chapter history.now receipts.now) }
 {
     let Ok(mut seen) = no_marks(alloc, history.len()) else {
         return Err(ReceiptFault::Memory);
     };
     let mut older = 0u64;
     for index in 0..receipts.len() {
-        if check_receipt(history, chapter, &mut seen, receipts[index])? {
+        if check_receipt(history, hub, chapter, &mut seen, receipts[index])? {
             older += 1;
         }
     }

@@ -1,6 +1,6 @@
 //! What lies under the lock.
 
-ghost use Rattle.std.specs.Prelude.{◌≡◌, ◌+◌, ◌<◌, ◌≤◌, ◌^◌, ◌⊎◌, [], IfOk, OnOk, IfErr, IfSome, count_by, vec_len, vec_capacity, None, MatchOption};
+ghost use Rattle.std.specs.Prelude.{◌≡◌, ◌+◌, ◌<◌, ◌≤◌, ◌^◌, ◌⊎◌, ◌||◌, [], false, IfOk, OnOk, IfErr, IfSome, count_by, nat_le, vec_len, vec_capacity, None, MatchOption};
 ghost use Rattle.std.specs.Arc.{arc_value};
 ghost use Rattle.mcv_pools.specs.Hash.{fnv_index};
 ghost use Rattle.mcv_symbolic.specs.CoveredRoutes.{AreCovered};
@@ -8,13 +8,16 @@ ghost use Rattle.mcv_core.specs.Events.{IsAnsweredLeg, IsBegun, IsClocked, IsLos
 ghost use Rattle.mcv_core.specs.Opening.{opened_view};
 ghost use Rattle.mcv_core.specs.View.{core_view};
 ghost use Rattle.mcv_core.specs.declared.fault.CoreFault.TheVariants.{Memory as OutOfMemory};
-ghost use Rattle.mcv_hub.specs.Events.{IsHubEvent, IsHubTurn, IsReceived, IsRequested, taken_part};
+ghost use Rattle.mcv_hub.specs.Events.{IsHubEvent, IsReceived, IsRequested, taken_part};
+ghost use Rattle.mcv_hub.specs.Gate.{IsGate, IsHubBegun, IsHubTurn, due_bytes, is_chapter_due, is_half_full};
 ghost use Rattle.mcv_hub.specs.History.{is_began, is_taken};
 ghost use Rattle.mcv_hub.specs.RemainingEntries.{break_count};
 ghost use Rattle.mcv_hub.specs.Receipts.{ArePassed, AreRefused};
+ghost use Rattle.mcv_hub.specs.Weights.{bytes_of};
 
 use crate::entry::Entry;
-use crate::history::{change_of, count_began, count_taken, era_entry, leg_entry, write};
+use crate::gate::Gate;
+use crate::history::{History, Past, change_of, era_entry, leg_entry, write};
 use crate::ledger::HubLedger;
 use crate::receipts::{Receipt, ReceiptFault, Report, count_older};
 use crate::reply::LegReply;
@@ -32,6 +35,15 @@ use std::sync::ledger::{Blank, Book, Ledger, Share};
 /// The most entries that a chapter's calls may write.
 const ENTRY_LIMIT: usize = 1_000_000;
 
+/// The bytes of a history from which on the next chapter is due: 64 MiB.
+const DUE_BYTES: u64 = 64 << 20;
+
+/// The bytes of a history from which on its chapter is nearly full: 160 MiB, halfway from where the next one is due.
+const NEARLY_FULL_BYTES: u64 = 160 << 20;
+
+/// The bytes of a history beyond which no call begins: 256 MiB.
+const MOST_BYTES: u64 = 256 << 20;
+
 /// The most places of a history.
 const MOST_PLACES: usize = 1 << 62;
 
@@ -42,16 +54,22 @@ const MOST_COUNTED: u64 = (1 << 63) - 1;
 #[derive(Drop)]
 pub struct HubState<B: HubLedger, T: Ledger> {
     core: Core<Fnv>,
-    history: Vec<Entry>,
+    history: History,
     /// How many entries the chapter has at most, of those that began.
     places: usize,
     /// How many breaks the routes have.
     breaks: usize,
+    /// The number of the hub.
+    hub: usize,
     chapter: u64,
+    /// How many entries might be written when the chapter began.
+    entries_before: usize,
     begun: Book<B>,
     taken: Book<T>,
     begun_before: u64,
     taken_before: u64,
+    /// How often a call has waited for the next chapter in vain.
+    vain_waits: u8,
 }
 
 impl<B: HubLedger, T: Ledger> Model for HubState<B, T> {
@@ -68,9 +86,9 @@ impl<B: HubLedger, T: Ledger> Model for HubState<B, T> {
     ghost use Rattle.mcv_core.specs.View.{core_view};
     ghost use Rattle.mcv_hub.specs.RemainingEntries.{break_count, may_write};
 
-    ghost view = { λ s. record { core = s.core.dispatcher; history = s.history.items; chapter = s.chapter; begun = s.begun.total; taken = s.taken.total; begun_before = s.begun_before; taken_before = s.taken_before } };
+    ghost view = { λ s. record { core = s.core.dispatcher; history = s.history.entries.items; hub = s.hub; chapter = s.chapter; entries_before = s.entries_before; begun = s.begun.total; taken = s.taken.total; begun_before = s.begun_before; taken_before = s.taken_before } };
 
-    ghost invariant = { λ s. IsHub (core_view s.core.dispatcher) s.history.items s.chapter s.begun.total s.taken.total s.begun_before s.taken_before × HasRoom (vec_len s.history) (vec_capacity s.history) s.places (may_write (core_view s.core.dispatcher)) × (s.breaks ≡ break_count (core_view s.core.dispatcher).routes) × IsOpenedAs B.opened (core_view s.core.dispatcher) s.history.items s.chapter };
+    ghost invariant = { λ s. (IsHub (core_view s.core.dispatcher) s.history.entries.items s.chapter s.begun.total s.taken.total s.begun_before s.taken_before × HasRoom (vec_len s.history.entries) (vec_capacity s.history.entries) s.places (may_write (core_view s.core.dispatcher)) × (s.breaks ≡ break_count (core_view s.core.dispatcher).routes) × IsOpenedAs B.opened (core_view s.core.dispatcher) s.history.entries.items s.chapter) × (s.hub ≡ B.number) };
 }
 
 /// How many breaks the routes have, which are covered.
@@ -82,12 +100,12 @@ fn count_breaks(accepted: &Accepted) -> usize
 }
 
 /// Makes room in a history for so many entries beside its places. The one error is Memory, and it leaves the entries.
-fn make_room(history: &mut Vec<Entry>, places: usize, left: usize) -> Result<(), CoreFault>
-    requires { vec_len history.old ≤ places }
-    ensures items { history.new.items ≡ history.old.items }
-    ensures len { vec_len history.new ≡ vec_len history.old }
-    ensures grown { vec_capacity history.old ≤ vec_capacity history.new }
-    ensures room { OnOk result (places + left ≤ vec_capacity history.new) }
+fn make_room(history: &mut History, places: usize, left: usize) -> Result<(), CoreFault>
+    requires { vec_len history.old.entries ≤ places }
+    ensures items { history.new.entries.items ≡ history.old.entries.items }
+    ensures len { vec_len history.new.entries ≡ vec_len history.old.entries }
+    ensures grown { vec_capacity history.old.entries ≤ vec_capacity history.new.entries }
+    ensures room { OnOk result (places + left ≤ vec_capacity history.new.entries) }
     ensures small { OnOk result (places + left ≤ 2 ^ 62) }
     ensures err { IfErr result (λ fault. fault ≡ OutOfMemory) }
 {
@@ -122,33 +140,53 @@ fn places_for(one: usize, other: usize) -> Option<usize>
     Some(places)
 }
 
+/// Whether a chapter that opened with so many entries has gained as many as half of what it had room for.
+fn is_half_full(before: usize, entries: usize) -> bool
+    ensures { result ≡ is_half_full before entries }
+{
+    let gained = entries.saturating_sub(before);
+    let room = ENTRY_LIMIT.saturating_sub(before);
+    gained > 0 && room - room / 2 <= gained
+}
+
+/// Whether the next chapter is due where this one opened with so many entries, and has so many, which hold so many bytes.
+fn is_due_with(before: usize, entries: usize, bytes: u64) -> bool
+    ensures { result ≡ (is_half_full before entries || nat_le due_bytes bytes) }
+{
+    is_half_full(before, entries) || bytes >= DUE_BYTES
+}
+
 impl<B: HubLedger, T: Ledger> HubState<B, T> {
     ghost use Rattle.mcv_hub.specs.State.{HistoryKeepsDeletes, IsCallOf, IsOf, IsSame};
 
-    /// A core over these routes with the records that the spool held, in its first chapter, and the shares that count all
-    /// its calls and replies. The one error is Memory.
+    /// A core over these routes with the records that the spool held, in the first chapter of the hub of this number, and the
+    /// shares that count all its calls and replies. The one error is Memory.
     pub(crate) fn new(
         alloc: Global,
         accepted: Arc<Accepted>,
+        hub: usize,
         records: &[(u64, SpoolRecord)],
         begun: Blank,
         taken: Blank,
     ) -> Result<(HubState<B, T>, Share<B>, Share<T>), CoreFault>
         requires begun { (begun.name ≡ B.name) × (begun.parts ≡ B.parts) }
         requires taken { (taken.name ≡ T.name) × (taken.parts ≡ T.parts) }
+        requires number { hub ≡ B.number }
         requires opened { B.opened ≡ opened_view (arc_value accepted) records.now }
         ensures view { IfOk result (λ r. core_view r.0.core ≡ opened_view (arc_value accepted) records.now) }
-        ensures history { IfOk result (λ r. (r.0.history ≡ []) × (r.0.chapter ≡ 0)) }
+        ensures history { IfOk result (λ r. (r.0.history ≡ []) × (r.0.hub ≡ hub) × (r.0.chapter ≡ 0)) }
+        ensures due { IfOk result (λ r. is_chapter_due r.0 ≡ false) }
         ensures begun { IfOk result (λ r. (r.1.parts ≡ B.parts) × (r.1.amount ≡ 0) × (r.0.begun ≡ 0)) }
         ensures taken { IfOk result (λ r. (r.2.parts ≡ T.parts) × (r.2.amount ≡ 0) × (r.0.taken ≡ 0)) }
         ensures err { IfErr result (λ fault. fault ≡ OutOfMemory) }
     {
         let breaks = count_breaks(&accepted);
         let core = Core::new(alloc, accepted, Fnv, records)?;
-        let Some(places) = places_for(core.state().entries(), breaks) else {
+        let before = core.state().entries();
+        let Some(places) = places_for(before, breaks) else {
             return Err(CoreFault::Memory);
         };
-        let Ok(history) = Vec::with_capacity(alloc, places) else {
+        let Ok(history) = History::new(alloc, places) else {
             return Err(CoreFault::Memory);
         };
         let (begun, begun_share) = begun.open::<B>();
@@ -158,11 +196,14 @@ impl<B: HubLedger, T: Ledger> HubState<B, T> {
             history,
             places,
             breaks,
+            hub,
             chapter: 0,
+            entries_before: before,
             begun,
             taken,
             begun_before: 0,
             taken_before: 0,
+            vain_waits: 0,
         };
         Ok((state, begun_share, taken_share))
     }
@@ -174,8 +215,36 @@ impl<B: HubLedger, T: Ledger> HubState<B, T> {
         self.core.state()
     }
 
-    /// A call begins, and is counted in the seat's share; where the history gets no room it is Memory.
+    /// Whether the next chapter is due.
+    pub(crate) fn is_due(&self) -> bool
+        ensures { result ≡ is_chapter_due self.now }
+    {
+        let entries = self.core.state().entries();
+        is_due_with(self.entries_before, entries, self.history.bytes())
+    }
+
+    /// A call begins, and is counted in the seat's share; where the history holds too many bytes none does.
     pub(crate) fn begin(
+        &mut self,
+        alloc: Global,
+        seat: &mut Seat<B, T>,
+        request: Arc<Request>,
+        key: usize,
+    ) -> Result<CallId, CoreFault>
+        ensures event { IsHubBegun self.old (arc_value request) key result self.new }
+        ensures entry { OnOk result (IsRequested self.old self.new request key) }
+        ensures begun { seat.new.begun.amount + self.old.begun ≡ seat.old.begun.amount + self.new.begun }
+        ensures taken { seat.new.taken.amount + self.old.taken ≡ seat.old.taken.amount + self.new.taken }
+        ensures parts { (seat.new.begun.parts ≡ seat.old.begun.parts) × (seat.new.taken.parts ≡ seat.old.taken.parts) }
+    {
+        if self.bytes() > MOST_BYTES {
+            return Err(CoreFault::ChapterFull);
+        }
+        self.begin_call(alloc, seat, request, key)
+    }
+
+    /// A call begins, and is counted in the seat's share; where the history gets no room it is Memory.
+    fn begin_call(
         &mut self,
         alloc: Global,
         seat: &mut Seat<B, T>,
@@ -195,7 +264,7 @@ impl<B: HubLedger, T: Ledger> HubState<B, T> {
             return Err(CoreFault::Memory);
         };
         let call = self.core.begin(alloc, request, key)?;
-        self.history.push_reserved(Entry::Began {
+        self.history.push(Entry::Began {
             request: shared,
             key,
         });
@@ -238,11 +307,12 @@ impl<B: HubLedger, T: Ledger> HubState<B, T> {
             return Ok(None);
         };
         let receipt = Receipt {
+            hub: self.hub,
             chapter: self.chapter,
             entry: self.history.len(),
             call,
         };
-        self.history.push_reserved(Entry::Taken(call));
+        self.history.push(Entry::Taken(call));
         self.taken.add(&mut seat.taken, 1);
         Ok(Some(TakenReply {
             receipt,
@@ -334,14 +404,23 @@ impl<B: HubLedger, T: Ledger> HubState<B, T> {
         answer
     }
 
-    /// A new chapter begins.
-    pub(crate) fn turn(&mut self) -> Result<(), CoreFault>
+    /// The next chapter begins where it is due, and can.
+    pub(crate) fn gate(&mut self, alloc: Global) -> Gate
+        ensures { IsGate self.old result self.new }
+    {
+        if !self.is_due() {
+            return Gate::Open;
+        }
+        match self.turn(alloc) {
+            Ok(past) => Gate::Turned(past),
+            Err(_) => Gate::Closed,
+        }
+    }
+
+    /// The next chapter begins.
+    pub(crate) fn turn(&mut self, alloc: Global) -> Result<Past, CoreFault>
         ensures { IsHubTurn self.old result self.new }
     {
-        // Asked first, since the totals go through the history.
-        if !self.core.state().is_at_rest() {
-            return Err(CoreFault::Busy);
-        }
         let Some(chapter) = self.chapter.checked_add(1) else {
             return Err(CoreFault::Busy);
         };
@@ -350,12 +429,38 @@ impl<B: HubLedger, T: Ledger> HubState<B, T> {
             return Err(CoreFault::Busy);
         }
         self.core.events().turn()?;
-        self.history.clear();
-        self.places = turned_places(self.places, self.core.state().entries(), self.breaks);
+        let before = self.core.state().entries();
+        self.places = turned_places(self.places, before, self.breaks);
+        let past = self.history.renew(alloc, self.places);
         self.chapter = chapter;
+        self.entries_before = before;
         self.begun_before = begun;
         self.taken_before = taken;
-        Ok(())
+        self.vain_waits = 0;
+        Ok(past)
+    }
+
+    /// Whether three quarters of the room for entries that the chapter began with are taken, or its history holds 160 MiB.
+    fn is_nearly_full(&self) -> bool {
+        let room = ENTRY_LIMIT.saturating_sub(self.entries_before);
+        let left = ENTRY_LIMIT.saturating_sub(self.core.state().entries());
+        left <= room / 4 || self.history.bytes() >= NEARLY_FULL_BYTES
+    }
+
+    /// Whether a call has waited for the next chapter in vain, in this one; once this one is nearly full, whether a second has.
+    pub(crate) fn was_awaited_in_vain(&self) -> bool {
+        match self.vain_waits {
+            0 => false,
+            1 => !self.is_nearly_full(),
+            _ => true,
+        }
+    }
+
+    /// A call has waited for the next chapter in vain.
+    pub(crate) fn note_vain_wait(&mut self)
+        ensures { IsSame self.old self.new }
+    {
+        self.vain_waits = self.vain_waits.saturating_add(1);
     }
 
     /// How many calls were begun and replies taken in all chapters.
@@ -363,10 +468,9 @@ impl<B: HubLedger, T: Ledger> HubState<B, T> {
         ensures begun { result.0 ≡ self.now.begun }
         ensures taken { result.1 ≡ self.now.taken }
     {
-        let history = self.history.as_slice();
         (
-            self.begun_before + count_began(history),
-            self.taken_before + count_taken(history),
+            self.begun_before + self.history.began(),
+            self.taken_before + self.history.taken(),
         )
     }
 
@@ -374,23 +478,23 @@ impl<B: HubLedger, T: Ledger> HubState<B, T> {
     pub(crate) fn close(
         &mut self,
         alloc: Global,
-        begun: &mut Share<B>,
-        taken: &mut Share<T>,
+        seat: &mut Seat<B, T>,
         receipts: &[Receipt],
     ) -> Result<Report, ReceiptFault>
         ensures begun { IfOk result (λ p. p.begun ≡ self.old.begun) }
         ensures taken { IfOk result (λ p. p.taken ≡ self.old.taken) }
-        ensures all_begun { begun.old.parts ≡ B.parts → self.old.begun ≡ begun.old.amount }
-        ensures all_taken { taken.old.parts ≡ T.parts → self.old.taken ≡ taken.old.amount }
-        ensures passed { IfOk result (λ p. ArePassed self.old.chapter self.old.history receipts.now p.older) }
-        ensures err { IfErr result (AreRefused self.old.chapter self.old.history receipts.now) }
-        ensures shares { (begun.new.amount ≡ begun.old.amount) × (taken.new.amount ≡ taken.old.amount) × (begun.new.parts ≡ begun.old.parts) × (taken.new.parts ≡ taken.old.parts) }
+        ensures all_begun { seat.old.begun.parts ≡ B.parts → self.old.begun ≡ seat.old.begun.amount }
+        ensures all_taken { seat.old.taken.parts ≡ T.parts → self.old.taken ≡ seat.old.taken.amount }
+        ensures passed { IfOk result (λ p. ArePassed self.old.hub self.old.chapter self.old.history receipts.now p.older) }
+        ensures err { IfErr result (AreRefused self.old.hub self.old.chapter self.old.history receipts.now) }
+        ensures shares { (seat.new.begun.amount ≡ seat.old.begun.amount) × (seat.new.taken.amount ≡ seat.old.taken.amount) × (seat.new.begun.parts ≡ seat.old.begun.parts) × (seat.new.taken.parts ≡ seat.old.taken.parts) }
         ensures same { IsSame self.old self.new }
     {
         let (all_begun, all_taken) = self.totals();
-        self.begun.audit(begun);
-        self.taken.audit(taken);
-        let older = count_older(alloc, self.history.as_slice(), self.chapter, receipts)?;
+        self.begun.audit(&mut seat.begun);
+        self.taken.audit(&mut seat.taken);
+        let history = self.history.as_slice();
+        let older = count_older(alloc, history, self.hub, self.chapter, receipts)?;
         Ok(Report {
             begun: all_begun,
             taken: all_taken,
@@ -407,9 +511,23 @@ impl<B: HubLedger, T: Ledger> HubState<B, T> {
         self.history.as_slice()
     }
 
+    /// The bytes that the history holds.
+    pub(crate) fn bytes(&self) -> u64
+        ensures { result ≡ bytes_of self.now.history }
+    {
+        self.history.bytes()
+    }
+
     /// The hub is the one that was opened so.
     pub(crate) fn is_opened(&self)
         ensures { IsOf B.opened self.now }
+    {
+        let _core = &self.core;
+    }
+
+    /// The hub has this number.
+    pub(crate) fn is_numbered(&self)
+        ensures { self.now.hub ≡ B.number }
     {
         let _core = &self.core;
     }

@@ -9,6 +9,8 @@ mod sample;
 mod snapshot;
 mod text;
 
-pub use metric::{ClientMetric, Kind, Metric, ServerMetric};
-pub use snapshot::{ClientCounts, ServerCounts, Snapshot};
+pub use metric::{ClientMetric, HubMetric, Kind, Metric, ServerMetric, SpoolMetric, WordMetric};
+pub use snapshot::{
+    ClientCounts, HubCounts, ServerCounts, Snapshot, SpoolCounts, WordCount, WordCounts,
+};
 pub use text::{CONTENT_TYPE, metrics_text};

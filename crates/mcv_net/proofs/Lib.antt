@@ -1,4 +1,5 @@
 pub mod Losing
 pub mod Reading
 pub mod Sending
+pub mod Turns
 pub mod Writing

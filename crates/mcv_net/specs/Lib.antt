@@ -5,4 +5,5 @@ pub mod Legs
 pub mod Lines
 pub mod Repeat
 pub mod Seats
+pub mod Service
 pub mod Connections

@@ -3,6 +3,7 @@
 ghost use Rattle.std.specs.Prelude.{◌≡◌, IfNone};
 
 use crate::connection::{Connection, TcpConnection};
+use crate::service::{Service, earlier};
 use mcv_words::ServerTimeout;
 use std::net::{Net, TcpStream, ToSocketAddrs};
 use std::rt::Clock;
@@ -28,6 +29,8 @@ pub struct TcpDial<R: Net<Stream = TcpStream> + Clock + Copy + Drop> {
     /// How long a leg or a probe may take, a connection for it with it; None for any time, which it may also take while the
     /// clock can't be read.
     pub timeout: Option<ServerTimeout>,
+    /// Where an end may be asked for, by which each leg that begins behind that has to have its reply.
+    pub service: Service,
 }
 
 /// A new connection to one of a server's addresses, tried in turn up to this moment; None where there is none to be had.
@@ -45,15 +48,24 @@ fn connect_by<R: Net<Stream = TcpStream> + Clock>(
     None
 }
 
-impl<R: Net<Stream = TcpStream> + Clock + Copy + Drop> Dial for TcpDial<R> {
-    type Stream = TcpConnection<R>;
-
-    fn deadline(&self) -> Option<Instant>
+impl<R: Net<Stream = TcpStream> + Clock + Copy + Drop> TcpDial<R> {
+    /// The moment at which what begins now has taken the timeout.
+    fn timed_out(&self) -> Option<Instant>
         ensures { IfNone self.now.timeout (result ≡ None) }
     {
         let timeout = self.timeout?;
         let now = Instant::now(&self.rt).ok()?;
         now.checked_add(Duration::from_millis(timeout.millis))
+    }
+}
+
+impl<R: Net<Stream = TcpStream> + Clock + Copy + Drop> Dial for TcpDial<R> {
+    type Stream = TcpConnection<R>;
+
+    fn deadline(&self) -> Option<Instant>
+        ensures { IfNone self.now.timeout (IfNone self.now.service.state (result ≡ None)) }
+    {
+        earlier(self.timed_out(), self.service.end())
     }
 
     fn dial(&mut self, server: &str, until: Option<Instant>) -> Option<TcpConnection<R>> {

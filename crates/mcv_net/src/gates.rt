@@ -1,18 +1,25 @@
 //! What a proxy on sockets talks to.
 
-ghost use Rattle.std.specs.Prelude.{◌≡◌, ◌<◌, ℕ, List, IfSome, OnOk};
+ghost use Rattle.std.specs.Prelude.{◌≡◌, ◌<◌, ℕ, List, Some, IfSome, OnOk};
+ghost use Rattle.std.specs.Arc.{arc_value};
 ghost use Rattle.std.specs.Io.KnownBytes.{Appends};
+ghost use Rattle.std.specs.Str.{bytes_eq};
+ghost use Rattle.mcv_pools.specs.Table.{number_in};
 ghost use Rattle.mcv_net.specs.Lines.{listening_line};
 
 use crate::client::Client;
 use crate::connection::TcpConnection;
+use crate::counted_link::{CountedLink, CountedServer};
 use crate::dial::TcpDial;
 use crate::fault::NetFault;
 use crate::lines::{listening_line, print_line};
 use crate::link::{Begun, TcpLink};
-use crate::notice::{Notice, Notices, StandardError};
+use crate::notice::{Notice, Notices, StandardError, Watched};
 use crate::seats::{Seat, Seats};
-use crate::system_watch::SystemWatch;
+use crate::service::Service;
+use crate::shortages::Shortages;
+use crate::system_watch::{Counters, SystemWatch};
+use mcv_check::Accepted;
 use mcv_proxy::{Gates, ProxyFault};
 use mcv_spool::Disk;
 use mcv_words::Settings;
@@ -20,20 +27,36 @@ use std::alloc::{AllocError, Global};
 use std::io::{Eprint, ErrorKind, Write};
 use std::net::{Net, TcpListener, TcpStream};
 use std::rt::Clock;
+use std::sync::{Arc, Wait};
 use std::thread;
 use std::time::Duration;
+
+/// Where clients come, where an operator may ask, and by what they are served.
+#[derive(Drop)]
+pub struct Entrance {
+    pub listener: TcpListener,
+    pub service: Service,
+    pub accepted: Arc<Accepted>,
+}
 
 /// Clients that a listener accepts, servers over TCP, a disk, and the system's clock.
 #[derive(Drop)]
 pub struct NetGates<'a, D: Disk, W: Write, R: Drop> {
     rt: R,
     alloc: Global,
-    listener: TcpListener,
+    /// None once an end was asked for: who comes then is refused by the system.
+    listener: Option<TcpListener>,
     disk: Option<D>,
     settings: Settings,
+    error: StandardError<R>,
     /// How many clients are still to be served; where that has no limit, more than come.
     sessions: u64,
     seats: Seats,
+    shortages: Arc<Shortages>,
+    /// Where an operator may ask for an end.
+    service: Service,
+    /// Whose servers have the numbers by which their legs are counted.
+    accepted: Arc<Accepted>,
     out: &'a mut W,
     /// Whether the last try to accept a client failed.
     is_deaf: bool,
@@ -43,17 +66,17 @@ pub struct NetGates<'a, D: Disk, W: Write, R: Drop> {
 const TOO_MANY: &[u8] = b"SERVER_ERROR too many clients\r\n";
 
 /// Whether a listener that failed so accepts clients later. One that isn't a listener never does.
-fn passes(kind: ErrorKind) -> bool {
+pub(crate) fn passes(kind: ErrorKind) -> bool {
     kind != ErrorKind::InvalidInput && kind != ErrorKind::Unsupported
 }
 
-impl<'a, D: Disk, W: Write, R: Clock + Eprint + Copy + Drop> NetGates<'a, D, W, R> {
+impl<'a, D: Disk, W: Write, R: Clock + Eprint + Wait + Copy + Drop> NetGates<'a, D, W, R> {
     pub fn new(
-        rt: R,
         alloc: Global,
-        listener: TcpListener,
+        entrance: Entrance,
         disk: D,
         settings: Settings,
+        error: StandardError<R>,
         out: &'a mut W,
     ) -> Result<NetGates<'a, D, W, R>, AllocError> {
         let sessions = match settings.sessions {
@@ -61,21 +84,33 @@ impl<'a, D: Disk, W: Write, R: Clock + Eprint + Copy + Drop> NetGates<'a, D, W, 
             None => u64::MAX,
         };
         let seats = Seats::new(alloc, settings.max_clients)?;
-        Ok(NetGates {
-            rt,
-            alloc,
+        let shortages = Arc::new(alloc, Shortages::new())?;
+        let Entrance {
             listener,
+            service,
+            accepted,
+        } = entrance;
+        Ok(NetGates {
+            rt: error.rt,
+            alloc,
+            listener: Some(listener),
             disk: Some(disk),
             settings,
+            error,
             sessions,
             seats,
+            shortages,
+            service,
+            accepted,
             out,
             is_deaf: false,
         })
     }
 
-    fn note(&self, notice: Notice<'_>) {
-        StandardError { rt: self.rt }.note(notice);
+    fn note(&mut self, notice: Notice<'_>)
+        ensures { self.new.sessions ≡ self.old.sessions }
+    {
+        self.error.note(notice);
     }
 
     /// Notes whether clients can be accepted, where that is another answer than before.
@@ -93,13 +128,18 @@ impl<'a, D: Disk, W: Write, R: Clock + Eprint + Copy + Drop> NetGates<'a, D, W, 
         }
     }
 
-    /// The next connection of a client, once there is one, and None where none comes any more. Where one can't be accepted,
-    /// as while too many files are open, it tries again 10 ms later.
+    /// The next connection of a client, once there is one, and None where none comes any more or an end was asked for. Where
+    /// one can't be accepted, as while too many files are open, it tries again 10 ms later.
     fn next_stream(&mut self) -> Option<TcpStream>
         ensures { self.new.sessions ≡ self.old.sessions }
     {
         for _try in 0..u64::MAX {
-            match self.listener.accept() {
+            let accepted = self.listener.as_ref()?.accept();
+            if self.service.is_ending() {
+                self.listener = None;
+                return None;
+            }
+            match accepted {
                 Ok((stream, _address)) => {
                     self.note_hearing(false);
                     return Some(stream);
@@ -118,6 +158,7 @@ impl<'a, D: Disk, W: Write, R: Clock + Eprint + Copy + Drop> NetGates<'a, D, W, 
     fn refuse(&mut self, stream: TcpStream)
         ensures { self.new.sessions ≡ self.old.sessions }
     {
+        self.service.note_refused();
         if let Some(refused) = self.seats.refuse() {
             self.note(Notice::Crowded(refused));
         }
@@ -139,11 +180,26 @@ impl<'a, D: Disk, W: Write, R: Clock + Eprint + Copy + Drop> NetGates<'a, D, W, 
         None
     }
 
+    /// Where the legs to the server of this text are counted, if they are: by the server's own number.
+    fn counted(&self, server: &str) -> Option<CountedServer>
+        ensures { IfSome result (λ counted. Some counted.number ≡ number_in bytes_eq (arc_value self.now.accepted).servers server.now) }
+    {
+        let tally = self.service.tally()?;
+        let id = self.accepted.routes().servers().find(server)?;
+        Some(CountedServer {
+            tally,
+            number: id.0 as usize,
+        })
+    }
+
     /// Prints the line that says where clients may come, and how many records are pending.
     fn print_listening(&mut self, pending: usize) -> Result<(), NetFault>
         ensures { OnOk result ((address : List ℕ) × Appends (W.contents self.old.out.now) (W.contents self.new.out.now) (listening_line address pending)) }
     {
-        let address = format!(in self.alloc; "{}", self.listener.local_addr()?)?;
+        let Some(listener) = &self.listener else {
+            return Err(NetFault::Device);
+        };
+        let address = format!(in self.alloc; "{}", listener.local_addr()?)?;
         let line = listening_line(self.alloc, address.as_str(), pending)?;
         print_line(self.out, line.as_slice())?;
         Ok(())
@@ -155,6 +211,7 @@ where
     D: Disk + Send + 'static,
     W: Write,
     R: Net<Stream = TcpStream, Listener = TcpListener>
+        + Wait
         + Clock
         + Eprint
         + Copy
@@ -164,7 +221,7 @@ where
 {
     type Begun = Option<Begun<TcpConnection<R>>>;
 
-    type Link = TcpLink<TcpDial<R>, StandardError<R>>;
+    type Link = CountedLink<TcpLink<TcpDial<R>, StandardError<R>>>;
 
     type Disk = D;
 
@@ -172,21 +229,23 @@ where
 
     type Writer = Client;
 
-    type Watch = SystemWatch<R, StandardError<R>>;
+    type Watch = SystemWatch<R, Watched<R>>;
 
     fn link(&mut self, server: &str) -> Result<Self::Link, AllocError> {
         let dial = TcpDial {
             rt: self.rt,
             timeout: self.settings.server_timeout,
+            service: self.service.another(),
         };
-        let notices = StandardError { rt: self.rt };
-        TcpLink::new(self.alloc, server, dial, notices)
+        let notices = self.error.another();
+        let link = TcpLink::new(self.alloc, server, dial, notices)?;
+        Ok(CountedLink::new(link, self.counted(server)))
     }
 
     fn hubs(&self) -> usize
-        ensures { result ≡ self.now.settings.proxies.count }
+        ensures { result ≡ self.now.settings.hubs.count }
     {
-        self.settings.proxies.count as usize
+        self.settings.hubs.count as usize
     }
 
     fn disk(&mut self) -> Option<D> {
@@ -199,7 +258,9 @@ where
         for _try in 0..u64::MAX {
             self.sessions = self.sessions.checked_sub(1)?;
             let (stream, seat) = self.next_seated()?;
-            match Client::ends_of(self.alloc, stream, seat, self.settings.client_timeout) {
+            let timeout = self.settings.client_timeout;
+            let service = self.service.another();
+            match Client::ends_of(self.alloc, stream, seat, timeout, service) {
                 Ok(ends) => return Some(ends),
                 Err(_) => self.note(Notice::Unserved),
             }
@@ -208,12 +269,21 @@ where
     }
 
     fn watch(&mut self) -> Self::Watch {
-        SystemWatch::new(self.rt, StandardError { rt: self.rt })
+        let watched = Watched {
+            error: self.error.another(),
+            service: self.service.another(),
+        };
+        let counters = Counters {
+            shortages: Arc::try_clone(&self.shortages).ok(),
+            tally: self.service.tally(),
+        };
+        SystemWatch::new(self.rt, watched, counters)
     }
 
     fn opened(&mut self, pending: usize) -> Result<(), ProxyFault>
         ensures { OnOk result ((address : List ℕ) × Appends (W.contents self.old.out.now) (W.contents self.new.out.now) (listening_line address pending)) }
     {
+        self.service.note_pending(pending as u64);
         match self.print_listening(pending) {
             Ok(()) => Ok(()),
             Err(NetFault::Memory) => Err(ProxyFault::Memory),

@@ -2,13 +2,16 @@
 
 ghost use Rattle.std.specs.Prelude.{◌≡◌, IfErr};
 
+use crate::admin::serve_operators;
 use crate::fault::NetFault;
-use crate::gates::NetGates;
+use crate::gates::{Entrance, NetGates};
 use crate::lines::{closed_line, print_line};
 use crate::notice::{Notice, Notices, StandardError};
+use crate::service::Service;
 use mcv_check::Accepted;
-use mcv_proxy::start;
+use mcv_fleet::start;
 use mcv_spool::{Disk, FileDisk};
+use mcv_tally::Tally;
 use mcv_words::{RunOptions, Settings};
 use std::alloc::Global;
 use std::io;
@@ -18,15 +21,24 @@ use std::rt::Clock;
 use std::sync::{Arc, Wait};
 use std::thread::Threads;
 
+/// Where clients come, and where an operator may ask, if one may.
+#[derive(Drop)]
+pub struct Listeners {
+    pub clients: TcpListener,
+    pub admin: Option<TcpListener>,
+}
+
 /// Serves clients of a listener as the settings say, by what the checker accepted and with the spool on a disk. Without a limit
 /// for servers it says on standard error what that may lead to. Once the spool is open and the workers run it prints `mcv listening <address> pending <n>`, where n is the number of records pending in the spool;
 /// once the last session has ended and the workers have nothing in hand, `mcv closed calls <n>`, where n is the number of
-/// calls begun.
+/// calls begun. An operator may ask for that end (`mcv_admin`): then no more clients are accepted, those that are there are
+/// closed once they have the answers to what was read of them, and behind the time that the operator gave nothing is sent to
+/// servers any more, so that deletes which wait for them go to the spool.
 pub fn run_proxy<D, W, R>(
     rt: R,
     alloc: Global,
     accepted: Arc<Accepted>,
-    listener: TcpListener,
+    listeners: Listeners,
     disk: D,
     settings: Settings,
     out: &mut W,
@@ -44,11 +56,30 @@ where
         + Send
         + 'static,
 {
+    let mut error = StandardError::new(rt, alloc)?;
     if settings.server_timeout.is_none() {
-        StandardError { rt }.note(Notice::Unlimited);
+        error.note(Notice::Unlimited);
     }
-    let gates = NetGates::new(rt, alloc, listener, disk, settings, &mut *out)?;
+    let Listeners { clients, admin } = listeners;
+    let service = match admin {
+        Some(listener) => {
+            let hubs = settings.hubs.count as usize;
+            let tally = Tally::new(alloc, accepted.routes().servers(), hubs)?;
+            let address = clients.local_addr()?;
+            serve_operators(rt, alloc, tally, listener, address, error.another())?
+        }
+        None => Service::unasked(),
+    };
+    let entrance = Entrance {
+        listener: clients,
+        service: service.another(),
+        accepted: Arc::try_clone(&accepted)?,
+    };
+    let gates = NetGates::new(alloc, entrance, disk, settings, error.another(), &mut *out)?;
     let report = start(rt, alloc, accepted, gates)?;
+    if service.is_ending() {
+        error.note(Notice::Drained);
+    }
     let line = closed_line(alloc, report)?;
     print_line(out, line.as_slice())?;
     Ok(())
@@ -83,7 +114,7 @@ impl SpoolFiles for HostRuntime {
     }
 }
 
-/// Listens at the address, opens the spool, and serves clients (`run_proxy`), all as the options say.
+/// Listens at the addresses, opens the spool, and serves clients (`run_proxy`), all as the options say.
 pub fn serve<W, R>(
     rt: R,
     alloc: Global,
@@ -104,7 +135,12 @@ where
         + Send
         + 'static,
 {
-    let listener = listen(&rt, options.listen)?;
+    let clients = listen(&rt, options.listen)?;
+    let admin = match options.admin {
+        Some(address) => Some(listen(&rt, address)?),
+        None => None,
+    };
+    let listeners = Listeners { clients, admin };
     let disk = rt.open_spool(options.spool)?;
-    run_proxy(rt, alloc, accepted, listener, disk, options.settings, out)
+    run_proxy(rt, alloc, accepted, listeners, disk, options.settings, out)
 }

@@ -33,7 +33,7 @@ fn has_room(most: Option<MaxClients>, taken: u64) -> bool
 }
 
 /// Whether an operator is told of the refusal of this number, from 1.
-fn is_told(number: u64) -> bool
+pub(crate) fn is_told(number: u64) -> bool
     ensures { result ≡ is_told number }
 {
     number == 1 || number % 1000 == 0

@@ -1,26 +1,42 @@
 //! The system's clock as a watch.
 
 use crate::notice::{Notice, Notices};
-use mcv_base::Moment;
-use mcv_proxy::Watch;
+use crate::shortages::Shortages;
+use mcv_base::{Moment, Part, Request};
+use mcv_proxy::{Load, Shortage, Watch};
+use mcv_session::DeskFault;
+use mcv_spool::SpoolFault;
+use mcv_tally::Tally;
 use std::rt::Clock;
+use std::sync::Arc;
 use std::thread;
 use std::time::{Duration, SystemTime, UNIX_EPOCH};
 
-/// The system's clock, as one thread sees it.
+/// Where what happens is counted.
+#[derive(Drop)]
+pub struct Counters {
+    /// Requests for which there was no place, if they are counted.
+    pub shortages: Option<Arc<Shortages>>,
+    /// What an operator may ask about; None where none may.
+    pub tally: Option<Arc<Tally>>,
+}
+
+/// The system's clock, as one thread sees it, and what that thread notes.
 #[derive(Drop)]
 pub struct SystemWatch<R: Clock + Drop, N: Notices> {
     rt: R,
     notices: N,
+    counters: Counters,
     /// The last moment, which is given again where the clock can't be read.
     last: u64,
 }
 
 impl<R: Clock + Drop, N: Notices> SystemWatch<R, N> {
-    pub fn new(rt: R, notices: N) -> SystemWatch<R, N> {
+    pub fn new(rt: R, notices: N, counters: Counters) -> SystemWatch<R, N> {
         SystemWatch {
             rt,
             notices,
+            counters,
             last: 0,
         }
     }
@@ -43,10 +59,11 @@ impl<R: Clock + Drop, N: Notices> Watch for SystemWatch<R, N> {
 
     fn pause(&mut self) {
         thread::sleep(&self.rt, Duration::from_secs(1));
+        self.notices.catch_up();
     }
 
-    fn note_refusing(&mut self) {
-        self.notices.note(Notice::Refusing);
+    fn note_refusing(&mut self, fault: SpoolFault) {
+        self.notices.note(Notice::Refusing(fault));
     }
 
     fn note_taking(&mut self) {
@@ -55,5 +72,46 @@ impl<R: Clock + Drop, N: Notices> Watch for SystemWatch<R, N> {
 
     fn note_unserved(&mut self) {
         self.notices.note(Notice::Unserved);
+    }
+
+    fn note_full(&mut self, shortage: Shortage) {
+        let Some(shortages) = &self.counters.shortages else {
+            return;
+        };
+        if let Some(refused) = shortages.more(shortage) {
+            self.notices.note(Notice::Full(shortage, refused));
+        }
+    }
+
+    fn note_load(&mut self, hub: usize, chapter: u64, load: Load) {
+        let Some(tally) = &self.counters.tally else {
+            return;
+        };
+        if let Some(hub) = tally.hub(hub) {
+            hub.entries.set(load.entries);
+            hub.bytes.set(load.bytes);
+            hub.turned.raise(chapter);
+        }
+    }
+
+    fn note_answer(&mut self, request: &Request, answer: &Result<Vec<Part>, DeskFault>) {
+        let Some(tally) = &self.counters.tally else {
+            return;
+        };
+        if let Request::Ask(ask) = request {
+            tally.note_answer(ask.op, answer);
+        }
+    }
+
+    fn note_spooled(&mut self) {
+        if let Some(tally) = &self.counters.tally {
+            tally.spool.spooled.more();
+        }
+    }
+
+    fn note_slots(&mut self, slots: usize) {
+        if let Some(tally) = &self.counters.tally {
+            tally.spool.slots.raise(slots as u64);
+        }
     }
 }

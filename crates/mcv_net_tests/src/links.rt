@@ -7,9 +7,11 @@ ghost use Rattle.mcv_core.specs.Opening.{opened_view};
 use crate::memory::{Course, End, MemoryDial, Nobody, Seen};
 use mcv_base::{LegRequest, Op, Reply, Rest};
 use mcv_check::Accepted;
-use mcv_hub::{Hub, HubLedger, Pass};
-use mcv_net::{Notice, TcpLink};
-use mcv_proxy::{Link, LinkFault};
+use mcv_hub::{Capacity, Hub, HubLedger, Pass};
+use mcv_net::{CountedLink, CountedServer, Notice, TcpLink};
+use mcv_proxy::{Link, LinkFault, Shortage};
+use mcv_spool::SpoolFault;
+use mcv_tally::Tally;
 use mcv_verdict::{Judgement, judge_input};
 use std::alloc::Global;
 use std::marker::Brand;
@@ -38,9 +40,11 @@ fn pass_of<B: HubLedger, T: Ledger>(
 ) -> Pass
     requires begun { (begun.name ≡ B.name) × (begun.parts ≡ B.parts) × (begun.parts ≡ 2) }
     requires taken { (taken.name ≡ T.name) × (taken.parts ≡ T.parts) × (taken.parts ≡ 2) }
+    requires number { 0 ≡ B.number }
     requires opened { B.opened ≡ opened_view (arc_value accepted) [] }
 {
-    let made = Hub::<B, T>::new(alloc, accepted, &[], 1, 1, begun, taken);
+    let capacity = Capacity { bells: 1, seats: 1 };
+    let made = Hub::<B, T>::new(alloc, accepted, 0, &[], capacity, begun, taken);
     let (_hub, passes) = made.expect(rt, "memory");
     passes.pass()
 }
@@ -250,7 +254,7 @@ fn is_text(bytes: &[u8], text: &str) -> bool {
 fn sent<R: Wait + Abort + Copy + Drop>(
     rt: R,
     alloc: Global,
-    link: &mut TcpLink<MemoryDial<R>, Nobody>,
+    link: &mut CountedLink<TcpLink<MemoryDial<R>, Nobody>>,
     pass: &Pass,
     op: Op,
     begins: bool,
@@ -264,7 +268,7 @@ fn sent<R: Wait + Abort + Copy + Drop>(
 fn letters_of<R: Wait + Abort + Copy + Drop>(
     rt: R,
     alloc: Global,
-    link: &mut TcpLink<MemoryDial<R>, Nobody>,
+    link: &mut CountedLink<TcpLink<MemoryDial<R>, Nobody>>,
     pass: &Pass,
     ops: &[Op],
     begins: bool,
@@ -297,18 +301,49 @@ fn link_of<R: Wait + Abort + Copy + Drop>(
     TcpLink::new(alloc, "a:11211", dial, Nobody).expect(&rt, "memory")
 }
 
+/// What is counted of the server, of which there is one.
+fn tally_of(rt: &impl Abort, alloc: Global, accepted: &Accepted) -> Arc<Tally> {
+    let tally = Tally::new(alloc, accepted.routes().servers(), 1).expect(rt, "memory");
+    Arc::new(alloc, tally).expect(rt, "memory")
+}
+
+/// Whether so many legs were begun, and those were lost that have the letter of a loss.
+fn is_counted(tally: &Tally, begun: usize, letters: &[u8]) -> bool {
+    let lost = letters
+        .iter()
+        .filter(|l| **l == b'b' || **l == b'o')
+        .count();
+    match tally.server(0) {
+        Some(server) => server.sent.now() == begun as u64 && server.lost.now() == lost as u64,
+        None => false,
+    }
+}
+
 /// The legs of a row come to what it says.
 fn check_row<R: Wait + Abort + Copy + Drop>(
     rt: R,
     alloc: Global,
+    accepted: &Accepted,
     pass: &Pass,
     row: &Row,
     begins: bool,
 ) {
     let seen = new_seen(&rt, alloc);
-    let mut link = link_of(rt, alloc, row.courses, &seen);
+    let tally = tally_of(&rt, alloc, accepted);
+    let counted = CountedServer {
+        tally: Arc::try_clone(&tally).expect(&rt, "memory"),
+        number: 0,
+    };
+    let link = link_of(rt, alloc, row.courses, &seen);
+    let mut link = CountedLink::new(link, Some(counted));
     let letters = letters_of(rt, alloc, &mut link, pass, row.ops, begins);
     assert!(rt; is_text(letters.as_slice(), row.letters), "{}", row.name);
+    let begun = if begins { row.ops.len() } else { 0 };
+    assert!(rt;
+        is_counted(&tally, begun, letters.as_slice()),
+        "{}",
+        row.name
+    );
     let seen = seen.lock(&rt);
     assert!(rt;
         seen.dials == row.dials && is_text(seen.text.as_slice(), row.text),
@@ -322,9 +357,10 @@ fn legs_go_over_the_kept_connection_or_a_new_one(rt: HostRuntime) {
     let begun = Blank::new(2);
     let taken = Blank::new(2);
     let accepted = accepted_of(&rt, rt.alloc(), CONFIG);
-    let pass = pass_of::<Brand, Brand>(&rt, rt.alloc(), accepted, begun, taken);
+    let same = Arc::try_clone(&accepted).expect(&rt, "memory");
+    let pass = pass_of::<Brand, Brand>(&rt, rt.alloc(), same, begun, taken);
     for row in ROWS {
-        check_row(rt, rt.alloc(), &pass, row, true);
+        check_row(rt, rt.alloc(), &accepted, &pass, row, true);
     }
 }
 
@@ -333,9 +369,10 @@ fn legs_that_are_not_begun_are_sent_too(rt: HostRuntime) {
     let begun = Blank::new(2);
     let taken = Blank::new(2);
     let accepted = accepted_of(&rt, rt.alloc(), CONFIG);
-    let pass = pass_of::<Brand, Brand>(&rt, rt.alloc(), accepted, begun, taken);
+    let same = Arc::try_clone(&accepted).expect(&rt, "memory");
+    let pass = pass_of::<Brand, Brand>(&rt, rt.alloc(), same, begun, taken);
     for row in ROWS {
-        check_row(rt, rt.alloc(), &pass, row, false);
+        check_row(rt, rt.alloc(), &accepted, &pass, row, false);
     }
 }
 
@@ -362,9 +399,22 @@ fn notices_are_lines(rt: HostRuntime) {
     check_notice(
         &rt,
         alloc,
-        Notice::Refusing,
-        "mcv: the spool refuses records",
+        Notice::Refusing(SpoolFault::Full),
+        "mcv: the spool refuses records: the spool is full",
     );
+    check_notice(
+        &rt,
+        alloc,
+        Notice::Full(Shortage::Legs, 1000),
+        "mcv: too many legs wait: 1000 refused",
+    );
+    check_notice(
+        &rt,
+        alloc,
+        Notice::Full(Shortage::Chapter, 1),
+        "mcv: the chapter is full: 1 refused",
+    );
+    check_notice(&rt, alloc, Notice::More(3), "mcv: 3 lines more in a second");
     check_notice(
         &rt,
         alloc,

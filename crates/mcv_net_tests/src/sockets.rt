@@ -2,8 +2,8 @@
 
 use crate::links::accepted_of;
 use mcv_check::Accepted;
-use mcv_net::{SpoolFiles, listen, run_proxy};
-use mcv_words::{InRange, Proxies, ServerTimeout, Sessions, Settings, Window};
+use mcv_net::{Listeners, SpoolFiles, listen, run_proxy};
+use mcv_words::{Hubs, InRange, ServerTimeout, Sessions, Settings, Window};
 use std::alloc::Global;
 use std::io::{Eprint, Read, Write};
 use std::net::{Net, TcpListener, TcpStream};
@@ -67,11 +67,11 @@ fn is_answered_at<R: Net<Stream = TcpStream>>(
     true
 }
 
-/// What each client asks, and what it and the proxies' lines say.
+/// What each client asks, and what it and the proxy's lines say.
 #[derive(Clone, Copy)]
 struct Visit {
     clients: u64,
-    proxies: u64,
+    hubs: u64,
     request: &'static str,
     reply: &'static str,
     pending: usize,
@@ -92,7 +92,7 @@ fn address_of(rt: &impl Abort, alloc: Global, listener: &TcpListener) -> String 
     format!(in alloc; "{address}").expect(rt, "memory")
 }
 
-/// The lines of proxies that serve such clients.
+/// The lines of a proxy that serves such clients.
 fn lines_of(rt: &impl Abort, alloc: Global, address: &str, visit: &Visit) -> String {
     let lines = format!(in alloc;
         "mcv listening {address} pending {}\nmcv closed calls {}\n",
@@ -101,11 +101,11 @@ fn lines_of(rt: &impl Abort, alloc: Global, address: &str, visit: &Visit) -> Str
     lines.expect(rt, "memory")
 }
 
-/// So many clients, served by so many proxies, with half a minute for each reply.
+/// So many clients, served by so many hubs, with half a minute for each reply.
 fn settings_of(rt: &impl Abort, visit: &Visit) -> Settings {
     Settings {
         sessions: Some(Sessions::new(visit.clients).expect(rt, "some clients")),
-        proxies: Proxies::new(visit.proxies).expect(rt, "some proxies"),
+        hubs: Hubs::new(visit.hubs).expect(rt, "some hubs"),
         window: Window::new(0).expect(rt, "a window"),
         server_timeout: ServerTimeout::new(30_000),
         client_timeout: None,
@@ -113,7 +113,7 @@ fn settings_of(rt: &impl Abort, visit: &Visit) -> Settings {
     }
 }
 
-/// Whether proxies to one server, with the spool in this file, serve clients so.
+/// Whether a proxy to one server, with the spool in this file, serves clients so.
 fn is_served<R>(rt: R, alloc: Global, server: &str, spool: &str, visit: Visit) -> bool
 where
     R: Net<Stream = TcpStream, Listener = TcpListener>
@@ -146,14 +146,18 @@ where
     let client = client.expect(&rt, "a thread");
     let mut out = Vec::new(alloc);
     let disk = rt.open_spool(spool).expect(&rt, "a spool");
-    let ran = run_proxy(rt, alloc, accepted, listener, disk, settings, &mut out);
+    let listeners = Listeners {
+        clients: listener,
+        admin: None,
+    };
+    let ran = run_proxy(rt, alloc, accepted, listeners, disk, settings, &mut out);
     let is_answered = client.join(&rt);
     ran.is_ok() && is_answered && out.as_slice() == lines.as_bytes()
 }
 
 const GET: Visit = Visit {
     clients: 1,
-    proxies: 1,
+    hubs: 1,
     request: "get a\r\n",
     reply: "VALUE a 0 1\r\nx\r\nEND\r\n",
     pending: 0,
@@ -185,7 +189,7 @@ where
 
 const DELETE: Visit = Visit {
     clients: 1,
-    proxies: 1,
+    hubs: 1,
     request: "delete a\r\n",
     reply: "NOT_FOUND\r\n",
     pending: 0,
@@ -194,7 +198,7 @@ const DELETE: Visit = Visit {
 
 const DELETES: Visit = Visit {
     clients: 4,
-    proxies: 2,
+    hubs: 2,
     request: "delete a\r\n",
     reply: "NOT_FOUND\r\n",
     pending: 1,
@@ -203,14 +207,14 @@ const DELETES: Visit = Visit {
 
 const VERSION: Visit = Visit {
     clients: 1,
-    proxies: 1,
+    hubs: 1,
     request: "version\r\n",
     reply: "VERSION mcv 1\r\n",
     pending: 5,
     calls: 0,
 };
 
-/// Whether deletes to a server that isn't there are in the spool, also for the next proxies.
+/// Whether deletes to a server that isn't there are in the spool, also for the next proxy.
 fn spools<R>(rt: R, alloc: Global, spool: &str) -> bool
 where
     R: Net<Stream = TcpStream, Listener = TcpListener>
@@ -233,6 +237,82 @@ where
         && is_served(rt, alloc, server.as_str(), spool, VERSION)
 }
 
+/// Two clients, of whom one never comes.
+const DRAINED: Visit = Visit {
+    clients: 2,
+    hubs: 1,
+    request: "version\r\n",
+    reply: "VERSION mcv 1\r\n",
+    pending: 5,
+    calls: 0,
+};
+
+const DRAINING: &str =
+    "HTTP/1.1 200 OK\r\nContent-Type: text/plain; charset=utf-8\r\nContent-Length: 9\r\nConnection: close\r\n\r\ndraining\n";
+
+/// Whether a connection ends with no further byte.
+fn is_closed(mut stream: &TcpStream) -> bool {
+    let mut room = [0; 1];
+    matches!(stream.read(&mut room), Ok(0))
+}
+
+/// Whether a client that has asked once is closed when an operator asks for the end.
+fn is_closed_by_a_drain<R: Net<Stream = TcpStream>>(
+    rt: &R,
+    alloc: Global,
+    address: &str,
+    admin: &str,
+) -> bool {
+    let Ok(client) = TcpStream::connect(rt, address) else {
+        return false;
+    };
+    let Ok(operator) = TcpStream::connect(rt, admin) else {
+        return false;
+    };
+    let drain = "POST /drain?seconds=9 HTTP/1.1\r\n\r\n";
+    is_answered(alloc, &client, DRAINED.request, DRAINED.reply)
+        && is_answered(alloc, &operator, drain, DRAINING)
+        && is_closed(&client)
+}
+
+/// Whether a proxy ends where an operator asks for it.
+fn drains<R>(rt: R, alloc: Global, spool: &str) -> bool
+where
+    R: Net<Stream = TcpStream, Listener = TcpListener>
+        + SpoolFiles
+        + Threads
+        + Wait
+        + Clock
+        + Eprint
+        + Abort
+        + Copy
+        + Drop
+        + Send
+        + 'static,
+{
+    let clients = listen(&rt, "127.0.0.1:0").expect(&rt, "a listener");
+    let operators = listen(&rt, "127.0.0.1:0").expect(&rt, "a listener");
+    let address = address_of(&rt, alloc, &clients);
+    let admin = address_of(&rt, alloc, &operators);
+    let accepted = routes_to(&rt, alloc, admin.as_str());
+    let lines = lines_of(&rt, alloc, address.as_str(), &DRAINED);
+    let settings = settings_of(&rt, &DRAINED);
+    let client = thread::spawn(
+        &rt,
+        move || is_closed_by_a_drain(&rt, alloc, address.as_str(), admin.as_str()),
+    );
+    let client = client.expect(&rt, "a thread");
+    let mut out = Vec::new(alloc);
+    let disk = rt.open_spool(spool).expect(&rt, "a spool");
+    let listeners = Listeners {
+        clients,
+        admin: Some(operators),
+    };
+    let ran = run_proxy(rt, alloc, accepted, listeners, disk, settings, &mut out);
+    let is_closed = client.join(&rt);
+    ran.is_ok() && is_closed && out.as_slice() == lines.as_bytes()
+}
+
 #[test]
 fn a_get_hits_and_deletes_are_spooled(rt: HostRuntime) {
     let alloc = rt.alloc();
@@ -240,7 +320,9 @@ fn a_get_hits_and_deletes_are_spooled(rt: HostRuntime) {
     let folder = temporary.as_str();
     let number = process::id(rt.process());
     let spool = format!(in alloc; "{folder}/mcv_net_tests.{number}").expect(&rt, "memory");
-    let is_right = hits(rt, alloc, spool.as_str()) && spools(rt, alloc, spool.as_str());
+    let is_right = hits(rt, alloc, spool.as_str())
+        && spools(rt, alloc, spool.as_str())
+        && drains(rt, alloc, spool.as_str());
     let length = fs::read(&rt, spool.as_str()).expect(&rt, "the spool").len();
     fs::remove_file(&rt, spool.as_str()).expect(&rt, "the spool");
     assert!(rt; is_right);

@@ -1,8 +1,9 @@
 -- Replies that were taken.
-use Rattle.std.proofs.Common.{◌≡◌, ◌∙◌, ◌+◌, ◌<◌, ◌≤◌, ◌++◌, ◌∷◌, [], ℕ, List, Option, None, Some, Result, Ok, Err, ap, get_or, length, map, refl, sym, subst, take, arith}
-use Rattle.std.specs.Prelude.{IfOk, IfSome}
+use Rattle.std.proofs.Common.{◌≡◌, ◌∙◌, ◌+◌, ◌<◌, ◌≤◌, ◌++◌, ◌∷◌, [], ℕ, List, Option, None, Some, Result, Ok, Err, inr, ap, get_or, length, map, refl, sym, subst, take, arith}
+use Rattle.std.specs.Prelude.{IfErr, IfOk, IfSome}
+use Rattle.std.specs.List.{All}
 use Rattle.std.proofs.lemmas.List.{length_push, map_push, take_more, take_all}
-use Rattle.std.proofs.lemmas.List.Elements.{All-nil, All-push, Contains-get_or}
+use Rattle.std.proofs.lemmas.List.Elements.{All-head, All-nil, All-push, Contains-get_or}
 use Rattle.mcv_base.specs.Reply.{part_value}
 use Rattle.mcv_base.specs.declared.request.CallId.{CallId}
 use Rattle.mcv_core.specs.CoreView.{CoreView}
@@ -12,7 +13,8 @@ use Rattle.mcv_core.specs.declared.fault.CoreFault.TheVariants.{NoSuchCall}
 use Rattle.mcv_hub.specs.Events.{IsReceived}
 use Rattle.mcv_hub.specs.State.{HistoryKeepsDeletes, HubView, IsCallOf, IsOf, Replies}
 use Rattle.mcv_hub.specs.declared.seat.TakenReply.{TakenReply}
-use Rattle.mcv_proxy.specs.Desk.{AreTaken, WasMissing, WasTaken}
+use Rattle.mcv_proxy.specs.Desk.{AreTaken, HasOtherReply, IsUntaken, WasMissing, WasTaken}
+use Rattle.mcv_text.specs.Request.{RequestValue}
 
 -- by what the hub says of a reply that it hands out
 was_taken : (start : CoreView) (v : HubView) (call : CallId) (t : TakenReply) → IsOf start v → HistoryKeepsDeletes (core_view v.core) v.history → IsReceived v call t → WasTaken start t
@@ -75,3 +77,14 @@ one_missed start calls done missed d fault taken within is was h =
 -- all are
 pub all_taken : (start : CoreView) (calls : List CallId) (done : ℕ) (taken : List TakenReply) → length calls ≤ done → AreTaken start calls done None taken → map (λ t. t.receipt.call) taken ≡ calls
 all_taken start calls done taken all h = h.all refl ∙ take_all done calls all
+
+-- ---- of one call
+
+one_was_taken : (start : CoreView) (taken : List TakenReply) (t : TakenReply) → taken ≡ t ∷ [] → All (WasTaken start) taken → WasTaken start t
+one_was_taken start taken t e h = All-head (WasTaken start) t [] (subst (All (WasTaken start)) e h)
+
+-- what is answered of a call, by the only reply that was taken
+module _ (start : CoreView) (request : RequestValue) (key : ℕ) (call : CallId) (taken : List TakenReply) where
+  pub untaken_of_one : (r : Result TakenReply CoreFault) → All (WasTaken start) taken → IfErr r (HasOtherReply start.routes request key taken) → IfErr r (IsUntaken start request key call)
+  untaken_of_one (Ok t) each h = tt
+  untaken_of_one (Err fault) each h = record { is = h.is; why = inr (record { reply = h.reply; taken = one_was_taken start taken h.reply h.only each; other = h.other }) }

@@ -7,18 +7,18 @@ use Rattle.mcv_base.specs.declared.key.KeyFault.{KeyFault}
 use Rattle.mcv_base.specs.declared.operation.Op.{Op}
 use Rattle.mcv_base.specs.declared.request.CallId.{CallId}
 use Rattle.mcv_base.specs.declared.request.Request.{Request}
-use Rattle.mcv_core.specs.Asking as asking
 use Rattle.mcv_core.specs.CoreView.{CoreView}
 use Rattle.mcv_core.specs.View.{core_view}
 use Rattle.mcv_core.specs.declared.fault.CoreFault.{CoreFault}
 use Rattle.mcv_core.specs.declared.fault.CoreFault.TheVariants.{UnknownPrefix, BadKey, LegsFull, ChapterFull, NothingWaiting, NoSuchLeg, Busy, ClockBack, Memory, NoSuchCall}
+use Rattle.mcv_hub.specs.Gate.{IsHubBegun, IsHubUnbegun}
 use Rattle.mcv_hub.specs.State.{HistoryKeepsDeletes, HubView, IsCallOf, IsOf, Replies}
 use Rattle.mcv_hub.specs.declared.receipts.Receipt.{Receipt}
 use Rattle.mcv_hub.specs.declared.seat.TakenReply.{TakenReply}
-use Rattle.mcv_pools.specs.Hash.{fnv_index}
 use Rattle.mcv_route.specs.Places.{route_of_prefix}
 use Rattle.mcv_route.specs.Routes.{RoutesValue}
-use Rattle.mcv_proxy.specs.Events.{Begins}
+use Rattle.mcv_proxy.specs.declared.gates.Shortage.{Shortage}
+use Rattle.mcv_proxy.specs.declared.gates.Shortage.TheVariants.{Legs, Chapter}
 use Rattle.mcv_session.specs.Desk.{keys_of}
 use Rattle.mcv_session.specs.declared.desk.DeskFault.{DeskFault}
 use Rattle.mcv_session.specs.declared.desk.DeskFault.TheVariants as answers
@@ -78,7 +78,7 @@ pub record WasRefused (opened : CoreView) (request : RequestValue) (key : ℕ) (
   pub seen : WasSeen opened state
   pub asked : Request
   pub its : request_value asked ≡ request
-  pub cause : asking.IsUnbegun (core_view state.core) fnv_index asked key fault
+  pub cause : IsHubUnbegun state asked key fault
 
 -- a call for the key of this number was begun, under this number
 pub record WasBegun (opened : CoreView) (request : RequestValue) (key : ℕ) (call : CallId) : Type 0 where
@@ -87,7 +87,7 @@ pub record WasBegun (opened : CoreView) (request : RequestValue) (key : ℕ) (ca
   pub asked : Request
   pub its : request_value asked ≡ request
   pub after : HubView
-  pub begins : Begins state asked key (Ok call) after
+  pub begins : IsHubBegun state asked key (Ok call) after
 
 -- these calls were, for the first keys of the request, in their order
 pub data AreBegun (opened : CoreView) (request : RequestValue) : List CallId → Type 0 where
@@ -138,6 +138,36 @@ pub record IsFor (r : RoutesValue) (request : RequestValue) (key : ℕ) (t : Tak
 abbrev pub AreFor : RoutesValue → RequestValue → List TakenReply → Type 0
 AreFor r request taken = (key : ℕ) (t : TakenReply) → slice_get taken key ≡ Some t → IsFor r request key t
 
+-- ---- one key
+
+-- the reply was taken of the hub, and is for the key of this number
+pub record IsReplyFor (opened : CoreView) (request : RequestValue) (key : ℕ) (t : TakenReply) : Type 0 where
+  pub taken : WasTaken opened t
+  pub for_key : IsFor opened.routes request key t
+
+-- it is the only one of these replies, and is for the key of this number
+pub record IsOnlyReplyFor (r : RoutesValue) (request : RequestValue) (key : ℕ) (taken : List TakenReply) (t : TakenReply) : Type 0 where
+  pub only : taken ≡ t ∷ []
+  pub for_key : IsFor r request key t
+
+-- the only one of these replies is for another key, or for none, which is answered by this fault
+pub record HasOtherReply (r : RoutesValue) (request : RequestValue) (key : ℕ) (taken : List TakenReply) (fault : CoreFault) : Type 0 where
+  pub is : fault ≡ NoSuchCall
+  pub reply : TakenReply
+  pub only : taken ≡ reply ∷ []
+  pub other : IsFor r request key reply → ⊥
+
+-- a reply of the hub is for another key than that of this number, or for none
+pub record IsForAnother (opened : CoreView) (request : RequestValue) (key : ℕ) : Type 0 where
+  pub reply : TakenReply
+  pub taken : WasTaken opened reply
+  pub other : IsFor opened.routes request key reply → ⊥
+
+-- why a call has no reply for the key of this number: it didn't run when the reply was to be taken, or the reply is for another key
+pub record IsUntaken (opened : CoreView) (request : RequestValue) (key : ℕ) (call : CallId) (fault : CoreFault) : Type 0 where
+  pub is : fault ≡ NoSuchCall
+  pub why : WasMissing opened call ⊎ IsForAnother opened request key
+
 -- ---- answers
 
 -- the request is answered by these replies, one for each key, in the order of the keys
@@ -170,6 +200,12 @@ desk_fault ClockBack = answers.Busy
 desk_fault Memory = answers.Memory
 desk_fault NoSuchCall = answers.Busy
 
+-- what has no place for a call that is refused for this cause
+abbrev pub shortage_of : CoreFault → Option Shortage
+shortage_of LegsFull = Some Legs
+shortage_of ChapterFull = Some Chapter
+shortage_of _ = None
+
 pub record IsFaultOf (opened : CoreView) (request : RequestValue) (calls : List CallId) (taken : List TakenReply) (fault : DeskFault) : Type 0 where
   pub cause : CoreFault
   pub is : fault ≡ desk_fault cause
@@ -198,3 +234,9 @@ pub record Asks (opened : CoreView) (before : DeskView) (request : RequestValue)
   pub most : length taken ≤ length calls
   pub answered : IfOk answer (λ replies. IsAnsweredBy opened.routes request taken replies × (map (λ t. t.receipt.call) taken ≡ calls))
   pub refused : IfErr answer (IsFaultOf opened request calls taken)
+
+-- some desk of the hub did so
+pub record WasAsked (opened : CoreView) (request : RequestValue) (answer : Result (List ReplyValue) DeskFault) : Type 0 where
+  pub before : DeskView
+  pub after : DeskView
+  pub asks : Asks opened before request answer after

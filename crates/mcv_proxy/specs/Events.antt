@@ -1,18 +1,17 @@
 -- What events do to the borrowed state beyond the hub's own (own).
-use Rattle.std.specs.Prelude.{◌≡◌, ◌≢◌, ◌⊎◌, ℕ, Bool, false, true, Result, Err, OnOk, OnErr}
+use Rattle.std.specs.Prelude.{◌≡◌, ◌≢◌, ◌⊎◌, ℕ, Result, Err, OnOk, OnErr}
 use Rattle.mcv_base.specs.declared.request.CallId.{CallId}
 use Rattle.mcv_base.specs.declared.request.LegId.{LegId}
 use Rattle.mcv_base.specs.declared.request.ServerId.{ServerId}
 use Rattle.mcv_base.specs.declared.request.Request.{Request}
-use Rattle.mcv_pools.specs.Hash.{fnv_index}
-use Rattle.mcv_core.specs.Events.{IsBegun, IsLostLeg, IsMarked}
+use Rattle.mcv_core.specs.Events.{IsLostLeg, IsMarked}
 use Rattle.mcv_core.specs.View.{core_view}
 use Rattle.mcv_core.specs.declared.fault.CoreFault.{CoreFault}
-use Rattle.mcv_core.specs.declared.fault.CoreFault.TheVariants.{ChapterFull}
+use Rattle.mcv_core.specs.declared.fault.CoreFault.TheVariants.{ChapterFull, Memory}
 use Rattle.mcv_core.specs.declared.step.Step.{Step}
 use Rattle.mcv_hub.specs.Events.{BeginsChapter, IsBusyChapter, IsHubEvent}
+use Rattle.mcv_hub.specs.Gate.{IsHubBegun}
 use Rattle.mcv_hub.specs.State.{HubView}
-use Rattle.mcv_proxy.specs.declared.events.Attempt.{Attempt}
 
 -- the leg was lost, and then the server marked where three or more failures came in a row; where the loss is refused
 -- nothing has changed
@@ -25,9 +24,9 @@ pub record IsLoss (server : ServerId) (leg : LegId) (old new : HubView) (result 
 
 -- ---- a call begins, in the next chapter where this one has no place for it
 
--- the call is begun, or refused, under the lock
+-- the call is begun, or refused, under the lock; or memory ran out before the hub was asked
 abbrev pub Begins : HubView → Request → ℕ → Result CallId CoreFault → HubView → Type 0
-Begins old request key begun new = IsHubEvent (IsBegun (core_view old.core) fnv_index request key begun) old new
+Begins old request key begun new = IsHubBegun old request key begun new ⊎ ((begun ≡ Err Memory) × (new ≡ old))
 
 -- the chapter has a place for it, or it is refused for something else
 abbrev pub BeginsHere : HubView → Request → ℕ → Result CallId CoreFault → HubView → Type 0
@@ -49,9 +48,7 @@ pub record FindsNoPlace (old : HubView) (request : Request) (key : ℕ) (begun :
   pub stays : IsBusyChapter full new fault
   pub answer : begun ≡ Err ChapterFull
 
-abbrev pub IsTried : HubView → Request → ℕ → (may_wait : Bool) → Result CallId CoreFault → HubView → Type 0
-IsTried old request key false begun new = BeginsHere old request key begun new ⊎ BeginsInNext old request key begun new
-IsTried old request key true begun new = FindsNoPlace old request key begun new
-
-abbrev pub IsAttempt : HubView → Request → ℕ → Attempt → HubView → Type 0
-IsAttempt old request key attempt new = IsTried old request key attempt.may_wait attempt.begun new
+pub data IsAttempt (old : HubView) (request : Request) (key : ℕ) (begun : Result CallId CoreFault) (new : HubView) : Type 0 where
+  in_this : BeginsHere old request key begun new → IsAttempt old request key begun new
+  in_next : BeginsInNext old request key begun new → IsAttempt old request key begun new
+  in_none : FindsNoPlace old request key begun new → IsAttempt old request key begun new

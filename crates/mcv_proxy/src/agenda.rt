@@ -2,7 +2,7 @@
 
 use mcv_base::{CallId, LegId, Mark, ServerId};
 use mcv_core::{Dispatcher, LegState, LegView};
-use mcv_hub::{Bell, Hub, HubLedger};
+use mcv_hub::{Bell, Gate, Guard, Hub, HubLedger, Past};
 use std::alloc::Global;
 use std::sync::ledger::Ledger;
 
@@ -13,12 +13,14 @@ pub(crate) struct Due {
     pub(crate) leg: LegId,
 }
 
-/// What events leave to be done: bells to be rung once the lock is let go, so that who wakes doesn't find it locked, and
-/// legs that a session has to send for its calls.
+/// What events leave to be done: bells to be rung once the lock is let go, so that who wakes doesn't find it locked, an old
+/// chapter to be dropped then, and legs that a session has to send for its calls.
 #[derive(Drop)]
 pub(crate) struct Agenda<'a, B: HubLedger, T: Ledger> {
+    alloc: Global,
     hub: &'a Hub<B, T>,
     bells: Vec<Bell>,
+    past: Option<Past>,
     pub(crate) due: Vec<Due>,
 }
 
@@ -46,8 +48,10 @@ impl<'a, B: HubLedger, T: Ledger> Agenda<'a, B, T> {
     /// Nothing to be done. It takes no memory.
     pub(crate) fn new(alloc: Global, hub: &'a Hub<B, T>) -> Agenda<'a, B, T> {
         Agenda {
+            alloc,
             hub,
             bells: Vec::new(alloc),
+            past: None,
             due: Vec::new(alloc),
         }
     }
@@ -60,6 +64,25 @@ impl<'a, B: HubLedger, T: Ledger> Agenda<'a, B, T> {
     /// This bell is to be rung.
     pub(crate) fn add(&mut self, bell: Bell) {
         keep_in_mind(self.hub, &mut self.bells, bell);
+    }
+
+    /// Begins the next chapter where it is due, and no call runs and no leg is queued.
+    pub(crate) fn turn_where_due(&mut self, guard: &mut Guard<'_, B, T>) {
+        if let Gate::Turned(past) = guard.gate(self.alloc) {
+            self.note_turned(past);
+        }
+    }
+
+    /// The next chapter has begun: who waits for it is to be rung, and what is left of the old one to be dropped.
+    pub(crate) fn note_turned(&mut self, past: Past) {
+        self.past = Some(past);
+        self.add(Bell::Chapter);
+    }
+
+    /// Rings all bells that are to be rung, and drops what is left of an old chapter. The lock is let go before.
+    pub(crate) fn finish(&mut self) {
+        self.ring_all();
+        self.past = None;
     }
 
     /// Rings all bells that are to be rung.

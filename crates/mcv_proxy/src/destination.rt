@@ -108,7 +108,8 @@ fn turn<B: HubLedger, T: Ledger, L: Link, R: Wait>(
     next_task(rt, alloc, lanes, agenda, guard, server, ends)
 }
 
-/// Reports what came of a leg in flight again, and rings who is next at its server.
+/// Reports what came of a leg in flight again, and rings who is next at its server. Where nothing is left of a chapter whose end
+/// is due the next one begins, before another leg is sent again.
 pub(crate) fn report_again<B: HubLedger, T: Ledger, R: Wait>(
     rt: &R,
     lanes: &Lanes,
@@ -122,8 +123,9 @@ pub(crate) fn report_again<B: HubLedger, T: Ledger, R: Wait>(
     let mut guard = hub.lock(rt, pass);
     let landing = land_again(agenda, &mut guard, server, leg, reply);
     lanes.pass_on(rt, agenda, &guard, server);
+    agenda.turn_where_due(&mut guard);
     drop(guard);
-    agenda.ring_all();
+    agenda.finish();
     landing
 }
 

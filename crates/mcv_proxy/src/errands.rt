@@ -40,8 +40,6 @@ pub(crate) struct Errands<'a, B: HubLedger, T: Ledger, L: Link> {
     late: Vec<Due>,
     /// A leg was lost without being sent, so that replies may be there.
     has_lost: bool,
-    /// From how many entries on a chapter ends once nothing is left of it.
-    pub(crate) turn_from: usize,
 }
 
 /// Goes on with a leg in flight that the link of its server began; without a link the flight is given back.
@@ -94,15 +92,14 @@ fn await_turn<B: HubLedger, T: Ledger, R: Wait>(
 }
 
 impl<'a, B: HubLedger, T: Ledger, L: Link> Errands<'a, B, T, L> {
-    /// Nothing to be sent, and chapters that end from so many entries on. It takes no memory.
-    pub(crate) fn new(alloc: Global, hub: &'a Hub<B, T>, turn_from: usize) -> Errands<'a, B, T, L> {
+    /// Nothing to be sent. It takes no memory.
+    pub(crate) fn new(alloc: Global, hub: &'a Hub<B, T>) -> Errands<'a, B, T, L> {
         Errands {
             agenda: Agenda::new(alloc, hub),
             flight: None,
             landed: None,
             late: Vec::new(alloc),
             has_lost: false,
-            turn_from,
         }
     }
 
@@ -322,8 +319,8 @@ impl<'a, B: HubLedger, T: Ledger, L: Link> Errands<'a, B, T, L> {
         }
     }
 
-    /// Rings all bells.
+    /// Rings all bells, and drops what is left of an old chapter.
     pub(crate) fn finish(&mut self) {
-        self.agenda.ring_all();
+        self.agenda.finish();
     }
 }

@@ -2,14 +2,14 @@
 
 ghost use Rattle.std.specs.Prelude.{◌≡◌, ◌↔◌, ◌+◌, true, Err, IfErr, IfOk, OnErr, OnOk};
 ghost use Rattle.std.specs.Arc.{arc_value};
-ghost use Rattle.mcv_pools.specs.Hash.{fnv_index};
-ghost use Rattle.mcv_core.specs.Events.{IsAnsweredLeg, IsBegun, IsRefusedLeg, IsSpooledLeg};
+ghost use Rattle.mcv_core.specs.Events.{IsAnsweredLeg, IsRefusedLeg, IsSpooledLeg};
 ghost use Rattle.mcv_core.specs.View.{core_view};
 ghost use Rattle.mcv_core.specs.declared.fault.CoreFault.TheVariants.{ChapterFull as FullChapter};
 ghost use Rattle.mcv_hub.specs.Events.{IsHubEvent};
+ghost use Rattle.mcv_hub.specs.Gate.{IsHubBegun};
 ghost use Rattle.mcv_text.specs.Request.{request_value};
 ghost use Rattle.mcv_proxy.specs.Desk.{WasBegun, WasRefused};
-ghost use Rattle.mcv_proxy.specs.Events.{IsAttempt, IsLoss};
+ghost use Rattle.mcv_proxy.specs.Events.{Begins, IsAttempt, IsLoss};
 ghost use Rattle.mcv_proxy.specs.Steps.{IsLanding};
 
 use crate::agenda::Agenda;
@@ -42,37 +42,24 @@ fn concerned_by(core: &Dispatcher, leg: LegId) -> Concerned {
     }
 }
 
-/// From how many entries on the chapters of all hubs end, each once nothing is left of it, and a call may wait for the next one.
-pub(crate) const MANY_ENTRIES: usize = 500_000;
-
-/// Begins a new chapter where this one has so many entries, and no call of it runs and no leg is queued.
-pub(crate) fn turn_where_full<B: HubLedger, T: Ledger>(
-    agenda: &mut Agenda<'_, B, T>,
-    guard: &mut Guard<'_, B, T>,
-    most: usize,
-) {
-    if guard.core().entries() >= most && guard.turn().is_ok() {
-        agenda.add(Bell::Chapter);
-    }
-}
-
 /// Notes whom an event on a leg let go on: who is to send the legs that it launched, who waits for the reply to its call, once
 /// that is there, unless that is the thread itself, whose calls these are, and the spool's worker or the replayer, whose leg
 /// it now is. Who may send the server's next leg isn't among them.
 fn note_after<B: HubLedger, T: Ledger>(
     agenda: &mut Agenda<'_, B, T>,
-    core: &Dispatcher,
+    guard: &Guard<'_, B, T>,
     own: &[CallId],
     concerned: Concerned,
     state: LegState,
 ) {
+    let core = guard.core();
     agenda.note_launched(core, concerned.first, own);
     if let Some(call) = concerned.call {
         if !own.contains(&call) && core.can_take(call) {
             agenda.add(Bell::Call(call));
         }
     }
-    if core.entries() >= MANY_ENTRIES {
+    if guard.is_due() && core.is_at_rest() {
         agenda.add(Bell::Chapter);
     }
     match state {
@@ -103,7 +90,7 @@ fn begin<B: HubLedger, T: Ledger>(
     request: Arc<Request>,
     key: usize,
 ) -> Result<CallId, CoreFault>
-    ensures event { IsHubEvent (IsBegun (core_view guard.old.core) fnv_index (arc_value request) key result) guard.old guard.new }
+    ensures event { IsHubBegun guard.old (arc_value request) key result guard.new }
     ensures begun { OnOk result (seat.new.begun.amount ≡ seat.old.begun.amount + 1) }
     ensures unbegun { OnErr result (seat.new.begun.amount ≡ seat.old.begun.amount) }
     ensures taken { seat.new.taken.amount ≡ seat.old.taken.amount }
@@ -127,7 +114,7 @@ fn begin_shared<B: HubLedger, T: Ledger>(
     request: &Arc<Request>,
     key: usize,
 ) -> Result<CallId, CoreFault>
-    ensures event { IsHubEvent (IsBegun (core_view guard.old.core) fnv_index (arc_value request.now) key result) guard.old guard.new }
+    ensures event { Begins guard.old (arc_value request.now) key result guard.new }
     ensures begun { OnOk result (seat.new.begun.amount ≡ seat.old.begun.amount + 1) }
     ensures unbegun { OnErr result (seat.new.begun.amount ≡ seat.old.begun.amount) }
     ensures taken { seat.new.taken.amount ≡ seat.old.taken.amount }
@@ -152,16 +139,8 @@ fn is_chapter_full(begun: &Result<CallId, CoreFault>) -> bool
     }
 }
 
-/// What came of beginning a call.
-#[derive(Drop)]
-pub(crate) struct Attempt {
-    pub begun: Result<CallId, CoreFault>,
-    /// Whether the chapter has no place for the call, and can't end yet.
-    pub may_wait: bool,
-}
-
-/// Begins a call for one key of the request. Where the chapter has no place for it a new one begins, and in this the call
-/// is begun once more.
+/// Begins a call for one key of the request. Where the chapter has no place for it, and can end, a new one begins, and in this
+/// the call is begun once more.
 pub(crate) fn begin_in_turn<B: HubLedger, T: Ledger>(
     alloc: Global,
     agenda: &mut Agenda<'_, B, T>,
@@ -169,31 +148,24 @@ pub(crate) fn begin_in_turn<B: HubLedger, T: Ledger>(
     seat: &mut Seat<B, T>,
     request: &Arc<Request>,
     key: usize,
-) -> Attempt
+) -> Result<CallId, CoreFault>
     ensures attempt { IsAttempt guard.old (arc_value request.now) key result guard.new }
-    ensures waits { result.may_wait ≡ true → seat.new.begun.amount ≡ seat.old.begun.amount }
-    ensures begun { OnOk result.begun (seat.new.begun.amount ≡ seat.old.begun.amount + 1) }
-    ensures unbegun { OnErr result.begun (seat.new.begun.amount ≡ seat.old.begun.amount) }
+    ensures begun { OnOk result (seat.new.begun.amount ≡ seat.old.begun.amount + 1) }
+    ensures unbegun { OnErr result (seat.new.begun.amount ≡ seat.old.begun.amount) }
     ensures taken { seat.new.taken.amount ≡ seat.old.taken.amount }
-    ensures began { IfOk result.begun (WasBegun B.opened (request_value (arc_value request.now)) key) }
-    ensures refused { IfErr result.begun (WasRefused B.opened (request_value (arc_value request.now)) key) }
+    ensures began { IfOk result (WasBegun B.opened (request_value (arc_value request.now)) key) }
+    ensures refused { IfErr result (WasRefused B.opened (request_value (arc_value request.now)) key) }
 {
     let begun = begin_shared(alloc, agenda, guard, seat, request, key);
     if !is_chapter_full(&begun) {
-        return Attempt {
-            begun,
-            may_wait: false,
-        };
+        return begun;
     }
-    match guard.turn() {
-        Ok(()) => Attempt {
-            begun: begin_shared(alloc, agenda, guard, seat, request, key),
-            may_wait: false,
-        },
-        Err(_) => Attempt {
-            begun,
-            may_wait: true,
-        },
+    match guard.turn(alloc) {
+        Ok(past) => {
+            agenda.note_turned(past);
+            begin_shared(alloc, agenda, guard, seat, request, key)
+        }
+        Err(_) => begun,
     }
 }
 
@@ -210,7 +182,7 @@ pub(crate) fn answered<B: HubLedger, T: Ledger>(
     let concerned = concerned_by(guard.core(), leg);
     let answered = guard.answered(leg, reply);
     if let Ok(step) = &answered {
-        note_after(agenda, guard.core(), own, concerned, step.state);
+        note_after(agenda, guard, own, concerned, step.state);
     }
     answered
 }
@@ -229,7 +201,7 @@ pub(crate) fn lost<B: HubLedger, T: Ledger>(
     match guard.lost(leg) {
         Ok(step) => {
             guard.mark(server);
-            note_after(agenda, guard.core(), own, concerned, step.state);
+            note_after(agenda, guard, own, concerned, step.state);
             Ok(step)
         }
         Err(fault) => Err(fault),
@@ -265,7 +237,7 @@ pub(crate) fn spooled<B: HubLedger, T: Ledger>(
     let concerned = concerned_by(guard.core(), leg);
     let spooled = guard.spooled(leg, stored);
     if let Ok(step) = &spooled {
-        note_after(agenda, guard.core(), &[], concerned, step.state);
+        note_after(agenda, guard, &[], concerned, step.state);
     }
     spooled
 }
@@ -281,7 +253,7 @@ pub(crate) fn spool_refused<B: HubLedger, T: Ledger>(
     let concerned = concerned_by(guard.core(), leg);
     let refused = guard.spool_refused(leg);
     if let Ok(step) = &refused {
-        note_after(agenda, guard.core(), &[], concerned, step.state);
+        note_after(agenda, guard, &[], concerned, step.state);
     }
     refused
 }

@@ -1,9 +1,10 @@
 //! What a proxy talks to.
 
 use crate::fault::ProxyFault;
-use mcv_base::{LegRequest, Moment, Reply};
+use mcv_base::{LegRequest, Moment, Part, Reply, Request};
 use mcv_hub::Pass;
-use mcv_spool::Disk;
+use mcv_session::DeskFault;
+use mcv_spool::{Disk, SpoolFault};
 use std::alloc::AllocError;
 use std::io::{Read, Write};
 use std::time::Duration;
@@ -58,9 +59,30 @@ pub trait Link: Drop {
 
     /// Notes that the server isn't marked any more.
     fn note_unmarked(&mut self, _pass: &Pass) {}
+
+    /// Notes that the server has performed a delete of the spool.
+    fn note_replayed(&mut self, _pass: &Pass) {}
 }
 
-/// The time, as one thread sees it.
+/// What has no place for the calls of a request.
+#[derive(Clone, Copy, Debug, PartialEq, Eq)]
+pub enum Shortage {
+    /// The queues of legs.
+    Legs,
+    /// The history of the chapter.
+    Chapter,
+}
+
+/// How full the chapter of a hub is.
+#[derive(Clone, Copy, Debug, Default, PartialEq, Eq)]
+pub struct Load {
+    /// How many entries of its history its calls and spooled legs may write.
+    pub entries: u64,
+    /// The bytes that the entries hold.
+    pub bytes: u64,
+}
+
+/// The time, as one thread sees it, and what it notes.
 pub trait Watch: Drop {
     /// Seconds since 1970.
     fn moment(&mut self) -> Moment;
@@ -73,14 +95,38 @@ pub trait Watch: Drop {
         Duration::from_secs(1)
     }
 
-    /// Notes that the spool refuses records from now on.
-    fn note_refusing(&mut self) {}
+    /// Notes that the spool refuses records from now on, and why it refused the first.
+    fn note_refusing(&mut self, _fault: SpoolFault) {}
 
     /// Notes that the spool takes records again.
     fn note_taking(&mut self) {}
 
+    /// Notes that a delete was written into the spool.
+    fn note_spooled(&mut self) {}
+
+    /// Notes how many slots the spool has, with those of records that are done.
+    fn note_slots(&mut self, _slots: usize) {}
+
+    /// Notes what a request was answered.
+    fn note_answer(&mut self, _request: &Request, _answer: &Result<Vec<Part>, DeskFault>) {}
+
     /// Notes that a client isn't served, since there was no thread or no memory for its session.
     fn note_unserved(&mut self) {}
+
+    /// Notes that a request was refused, since there was no place for its calls.
+    fn note_full(&mut self, _shortage: Shortage) {}
+
+    /// Notes that the hub of this number is in the chapter of that number, and how full that is.
+    fn note_load(&mut self, _hub: usize, _chapter: u64, _load: Load) {}
+}
+
+// A moment that was told.
+impl Watch for Moment {
+    fn moment(&mut self) -> Moment {
+        *self
+    }
+
+    fn pause(&mut self) {}
 }
 
 /// What a proxy talks to: servers, a disk, clients and the clock.
@@ -98,7 +144,7 @@ pub trait Gates: Drop {
 
     type Watch: Watch + Send + 'static;
 
-    /// How many hubs there are, to which clients are dealt out one after another; where this is 0 there is one.
+    /// How many hubs there are, each with the keys of its number: 1 to 8; where this is less or more, the next one of these.
     fn hubs(&self) -> usize {
         1
     }

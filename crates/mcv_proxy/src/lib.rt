@@ -1,5 +1,5 @@
-//! The proxy over whatever it talks to: hubs side by side over one spool. Each hub has sessions of clients, a worker for each
-//! server, one for the spool and a replayer, each in a thread of its own.
+//! What the threads of one hub do, over whatever it talks to: sessions of clients, a worker for each server, one for the spool
+//! and a replayer.
 //!
 //! A session begins a call for each key of a request, and waits at the bell of the call for its reply. The worker of a
 //! server sends the legs that wait for it, one at a time. The spool's worker writes down the deletes that their servers
@@ -8,6 +8,7 @@
 #![tactic(auto)]
 
 mod agenda;
+mod caller;
 mod departure;
 mod desk;
 mod destination;
@@ -15,24 +16,24 @@ mod ends;
 mod errands;
 mod events;
 mod fault;
-mod fleet;
 mod gates;
-mod host;
+mod hub_routes;
+mod kept;
+mod keys;
 mod landing;
 mod lanes;
 mod replay;
-mod running;
 mod seen;
+mod shortage;
 mod spooling;
-mod sums;
-mod threads;
 
-pub use crate::desk::HubDesk;
+pub use crate::desk::{HubDesk, Outlook, fault_for, into_parts};
 pub use crate::destination::serve_destination;
 pub use crate::ends::Ends;
 pub use crate::fault::ProxyFault;
-pub use crate::fleet::start;
-pub use crate::gates::{Gates, Link, LinkFault, Watch};
+pub use crate::gates::{Gates, Link, LinkFault, Load, Shortage, Watch};
+pub use crate::keys::key_count;
 pub use crate::lanes::{Lanes, Links};
 pub use crate::replay::serve_replay;
+pub use crate::shortage::shortage_of;
 pub use crate::spooling::serve_spool;

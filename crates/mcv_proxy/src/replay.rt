@@ -168,6 +168,7 @@ fn repeat_leg<B: HubLedger, T: Ledger, L: Link, D: Disk, R: Wait>(
     let Some(performed) = landing.performed else {
         return false;
     };
+    link.note_replayed(pass);
     let mut spool = spool.lock(rt);
     let _ = mark_done(&mut *spool, performed);
     true

@@ -183,40 +183,46 @@ fn report<B: HubLedger, T: Ledger, R: Wait>(
     let hub = agenda.hub();
     let mut guard = hub.lock(rt, pass);
     let _ = settle(agenda, &mut guard, leg, outcome);
+    agenda.turn_where_due(&mut guard);
     fault
 }
 
-/// Notes whether the spool refuses records, where that is another answer than before.
-fn note<W: Watch>(watch: &mut W, refuses: &mut bool, refused: bool) {
-    if *refuses == refused {
-        return;
+/// Notes what came of a record, and whether the spool refuses records, where that is another answer than before.
+fn note<W: Watch>(watch: &mut W, refuses: &mut bool, fault: Option<SpoolFault>) {
+    if fault.is_none() {
+        watch.note_spooled();
     }
-    *refuses = refused;
-    if refused {
-        watch.note_refusing();
-    } else {
-        watch.note_taking();
+    match fault {
+        Some(fault) if !*refuses => watch.note_refusing(fault),
+        None if *refuses => watch.note_taking(),
+        _ => {}
     }
+    *refuses = fault.is_some();
 }
 
 /// Writes the record of a held leg, and reports what came of it. Where the spool refused it, it is opened again if it has to
-/// be. Whether it refused.
+/// be. Why it refused, if it did.
 fn write_record<B: HubLedger, T: Ledger, D: Disk, R: Wait>(
     rt: &R,
     agenda: &mut Agenda<'_, B, T>,
     pass: &mut Pass,
     spool: &Mutex<Spool<D>>,
     held: HeldLeg,
-) -> bool {
+) -> Option<SpoolFault> {
     let HeldLeg { leg, delete } = held;
     let outcome = spool.lock(rt).append(delete);
     let fault = report(rt, agenda, pass, leg, outcome);
-    agenda.ring_all();
-    let Some(fault) = fault else {
-        return false;
-    };
-    let _ = mend(&mut *spool.lock(rt), fault);
-    true
+    agenda.finish();
+    if let Some(fault) = fault {
+        let _ = mend(&mut *spool.lock(rt), fault);
+    }
+    fault
+}
+
+/// How many slots the spool has.
+fn slots_of<D: Disk, R: Wait>(rt: &R, spool: &Mutex<Spool<D>>) -> usize {
+    let spool = spool.lock(rt);
+    spool.pending().len()
 }
 
 /// When a spool that has refused a record just now is asked again; None, at once, where the clock can't be read.
@@ -241,15 +247,17 @@ pub fn serve_spool<B: HubLedger, T: Ledger, D: Disk, W: Watch, R: Wait + Clock>(
     let mut agenda = Agenda::new(alloc, hub);
     let mut refuses = false;
     let mut until = None;
+    watch.note_slots(slots_of(rt, spool));
     for _turn in rt.forever() {
         match next_task(rt, texts, &mut agenda, pass, until, ends) {
             Task::Write(held) => {
-                let refused = write_record(rt, &mut agenda, pass, spool, held);
-                note(watch, &mut refuses, refused);
-                if refused && ends.are_asked() {
+                let fault = write_record(rt, &mut agenda, pass, spool, held);
+                note(watch, &mut refuses, fault);
+                watch.note_slots(slots_of(rt, spool));
+                if fault.is_some() && ends.are_asked() {
                     return;
                 }
-                until = if refused {
+                until = if fault.is_some() {
                     asked_again(rt, watch)
                 } else {
                     None

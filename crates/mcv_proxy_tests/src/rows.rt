@@ -606,9 +606,10 @@ const FOUR_CLIENTS: Row = Row {
     texts: &[],
 };
 
-const FOUR_GETS: &str = "get a\r\nget a\r\nget a\r\nget a\r\n";
+const FOUR_GETS: &str = "get a\r\nget b\r\nget a\r\nget b\r\n";
 
-/// Four clients of a server that breaks each leg and doesn't answer probes: each of two hubs sends it three legs.
+/// Four clients of a server that breaks each leg and doesn't answer probes: each of two hubs, that of `a` and that of `b`, sends
+/// it three legs.
 const DEAD_FOR_FOUR: Row = Row {
     config: ONE,
     signs: 0,
@@ -641,6 +642,26 @@ fn check_hubs<R: Threads + Wait + Clock + Abort + Copy + Drop + Send + 'static>(
 fn two_hubs_serve_four_clients(rt: HostRuntime) {
     check_hubs(rt, rt.alloc(), &FOUR_CLIENTS, 2);
     check_hubs(rt, rt.alloc(), &DEAD_FOR_FOUR, 2);
+}
+
+/// Gets of keys that have both of two hubs.
+const BOTH_HUBS: Row = Row {
+    config: TWO,
+    signs: 0,
+    servers: &[(A_HAS_A, NO_DUTIES), (B_HAS_B, NO_DUTIES)],
+    clients: &[("get b a\r\nget a b a\r\n", NO_CUES)],
+    calls: 5,
+    answers: &[
+        "VALUE b 0 1\r\nx\r\nVALUE a 0 1\r\nx\r\nEND\r\nVALUE a 0 1\r\nx\r\nVALUE b 0 1\r\nx\r\nVALUE a 0 1\r\nx\r\nEND\r\n",
+    ],
+    legs: &[3, 2],
+    texts: &[],
+};
+
+#[test]
+fn keys_of_two_hubs_are_answered_in_their_order(rt: HostRuntime) {
+    check_hubs(rt, rt.alloc(), &BOTH_HUBS, 2);
+    check_hubs(rt, rt.alloc(), &BOTH_HUBS, 8);
 }
 
 #[test]

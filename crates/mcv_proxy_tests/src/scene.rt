@@ -3,8 +3,9 @@
 use crate::disk::MemoryDisk;
 use mcv_base::{LegRequest, Moment, Op, Reply};
 use mcv_check::Accepted;
+use mcv_fleet::start;
 use mcv_hub::{Pass, Report};
-use mcv_proxy::{Gates, Link, LinkFault, ProxyFault, Watch, start};
+use mcv_proxy::{Gates, Link, LinkFault, ProxyFault, Watch};
 use mcv_text::leg_text;
 use mcv_verdict::{Judgement, judge_input};
 use std::alloc::{AllocError, Global};

@@ -298,3 +298,49 @@ fn deletes_of_a_dead_server_are_pending(rt: HostRuntime) {
     assert_eq!(rt; seen.kept, 1_600);
     assert!(rt; seen.pending >= 400);
 }
+
+/// How many clients ask many keys at once, how often each does, and of how many keys.
+const ASKERS: usize = 4;
+
+const WIDE_GETS: usize = 200;
+
+const WIDTH: usize = 100;
+
+/// Gets of a key of the first of two hubs, and behind it of many of the second.
+fn wide_gets<R: Abort>(rt: &R, alloc: Global) -> Vec<u8> {
+    let mut text = Vec::new(alloc);
+    for _get in 0..WIDE_GETS {
+        text.extend_from_slice(b"get a").expect(rt, "memory");
+        for _key in 0..WIDTH {
+            text.extend_from_slice(b" b").expect(rt, "memory");
+        }
+        text.extend_from_slice(b"\r\n").expect(rt, "memory");
+    }
+    text
+}
+
+/// A call counts 14 entries here, so that the second hub would be full after 71,428: its chapter has to end although no request has
+/// its first key there, and some client's calls run at any time.
+#[test]
+fn chapters_end_under_gets_of_two_hubs(rt: HostRuntime) {
+    let alloc = rt.alloc();
+    let mut scene = Scene::new(rt, alloc, 0);
+    for text in SERVERS.iter() {
+        let calm = Manner {
+            text: *text,
+            has: "",
+            breaks_every: 0,
+            in_a_row: 0,
+            answers_probes: true,
+        };
+        scene.add_server(calm, NO_DUTIES, 0);
+    }
+    for _client in 0..ASKERS {
+        scene.add_client(wide_gets(&rt, alloc), NO_CUES);
+    }
+    scene.hubs = 2;
+    let (report, _seen) = play(rt, alloc, ALL, scene);
+    let report = report.expect(&rt, "a report");
+    assert_eq!(rt; report.begun, 80_800);
+    assert_eq!(rt; report.taken, 80_800);
+}

@@ -1,12 +1,13 @@
 -- The definitions at small values.
-use Rattle.std.proofs.Common.{◌≡◌, ◌-◌, ◌^◌, inl, inr, ℕ, Bool, true, false, nat_le, Option, Some, None, refl, sym, ap, subst, ◌∙◌}
-use Rattle.std.proofs.lemmas.Bool.{cases_eq}
+use Rattle.std.proofs.Common.{◌≡◌, ◌||◌, ◌-◌, ◌^◌, inl, inr, ℕ, Bool, true, false, nat_eq, nat_le, [], ◌∷◌, Option, Some, None, refl, sym, ap, subst, ◌∙◌}
+use Rattle.std.proofs.lemmas.Bool.{cases_eq, ne_eqb}
 use Rattle.mcv_queues.specs.declared.leg.Leg.{Leg}
 use Rattle.mcv_queues.specs.declared.leg.State.{State}
 use Rattle.mcv_queues.specs.declared.leg.State.TheVariants.{Waiting, Sent, Held, Refused, InSpool}
 use Rattle.mcv_queues.specs.declared.roots.Group.TheVariants.{WaitingFor, HeldLegs}
 use Rattle.mcv_queues.specs.Numbers.{put, IsLeast}
 use Rattle.mcv_queues.specs.Legs.{is_in_flight, is_in_flight_to, with_state}
+use Rattle.mcv_queues.specs.Flights.{AreFlying, lists}
 use Rattle.mcv_queues.specs.Groups.{group_of, is_group, is_in, IsFirstHeld}
 use Rattle.mcv_queues.specs.Marks.{no_mark, put_mark, answered_mark, lost_mark, checked_mark}
 use Rattle.mcv_queues.proofs.Places.{put_there, some_eq, none_some, apart_bool}
@@ -50,6 +51,47 @@ others_stay = refl
 
 no_leg_comes : with_state four 8 Sent 8 ≡ None
 no_leg_comes = refl
+
+-- two legs of server 1 are in flight, 5 and 6
+abbrev five : ℕ → Option (Leg ℕ)
+five = put two 6 (Some (leg 1 Sent))
+
+no_other_flies : (n : ℕ) → (5 ≡ n → ⊥) → (6 ≡ n → ⊥) → is_in_flight_to 1 (five n) ≡ false
+no_other_flies n a b = ap (is_in_flight_to 1) (put_there two 6 n (Some (leg 1 Sent)) b ∙ put_there one 5 n (Some (leg 1 Sent)) a) ∙ elim (cases_eq 9 n) [
+  | inl q ↦ subst (λ j. is_in_flight_to 1 (one j) ≡ false) q refl
+  | inr ne ↦ ap (is_in_flight_to 1) (put_there (λ m. None) 9 n (Some (leg 2 Waiting)) ne)
+]
+
+two_fly : AreFlying five 1 2
+two_fly = record {
+  numbers = 6 ∷ 5 ∷ [];
+  these = λ n. elim (cases_eq 6 n) [
+    | inl q ↦ subst (λ j. lists (6 ∷ 5 ∷ []) j ≡ is_in_flight_to 1 (five j)) q refl
+    | inr b ↦ elim (cases_eq 5 n) [
+      | inl q ↦ subst (λ j. lists (6 ∷ 5 ∷ []) j ≡ is_in_flight_to 1 (five j)) q refl
+      | inr a ↦ ap (λ v. v || (nat_eq 5 n || false)) (ne_eqb 6 n b) ∙ ap (λ v. v || false) (ne_eqb 5 n a) ∙ sym (no_other_flies n a b)
+    ]
+  ];
+  apart = refl;
+  counted = refl;
+}
+
+none_flies_to_another : AreFlying five 7 0
+none_flies_to_another = record {
+  numbers = [];
+  these = λ n. elim (cases_eq 6 n) [
+    | inl q ↦ subst (λ j. false ≡ is_in_flight_to 7 (five j)) q refl
+    | inr b ↦ elim (cases_eq 5 n) [
+      | inl q ↦ subst (λ j. false ≡ is_in_flight_to 7 (five j)) q refl
+      | inr a ↦ elim (cases_eq 9 n) [
+        | inl q ↦ subst (λ j. false ≡ is_in_flight_to 7 (five j)) q refl
+        | inr c ↦ sym (ap (is_in_flight_to 7) (put_there two 6 n (Some (leg 1 Sent)) b ∙ put_there one 5 n (Some (leg 1 Sent)) a ∙ put_there (λ m. None) 9 n (Some (leg 2 Waiting)) c))
+      ]
+    ]
+  ];
+  apart = refl;
+  counted = refl;
+}
 
 -- 4 is the least number of those from 4 on, and no number is the least of none
 from_four : IsLeast (λ n. nat_le 4 n) (Some 4)

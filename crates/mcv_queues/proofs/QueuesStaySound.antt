@@ -1,5 +1,5 @@
 -- What keeps queues sound: the legs, their ranges and the first one of each group after each change.
-use Rattle.std.proofs.Common.{◌≡◌, ◌&&◌, inl, inr, cond, not, ℕ, ◌<◌, Bool, true, false, nat_eq, Option, Some, None, IfSome, refl, sym, ap, subst, ◌∙◌}
+use Rattle.std.proofs.Common.{◌≡◌, ◌&&◌, inl, inr, cond, not, ℕ, ◌<◌, Bool, true, false, nat_eq, [], Option, Some, None, IfSome, refl, sym, ap, subst, ◌∙◌}
 use Rattle.std.proofs.Math.Path.{fun_ext}
 use Rattle.std.specs.Prelude.{option_map}
 use Rattle.std.proofs.lemmas.Bool.{cases_eq, eqb-true, and_from, and_parts, and_right}
@@ -11,7 +11,7 @@ use Rattle.mcv_queues.specs.declared.leg.State.{State}
 use Rattle.mcv_queues.specs.declared.leg.State.TheVariants.{Waiting, Sent, Held, Refused, InSpool, InReplay}
 use Rattle.mcv_queues.specs.declared.roots.Group.{Group}
 use Rattle.mcv_queues.specs.declared.roots.Group.TheVariants.{WaitingFor, SpooledFor}
-use Rattle.mcv_queues.specs.Numbers.{put, names, IsLeast}
+use Rattle.mcv_queues.specs.Numbers.{put, IsLeast}
 use Rattle.mcv_queues.specs.Forest.{IsForest}
 use Rattle.mcv_queues.specs.Rows.{leg_of, link_of, content_of}
 use Rattle.mcv_queues.specs.Groups.{group_at, group_of, is_group, is_in}
@@ -40,7 +40,7 @@ legs_put a a2 x v e = fun_ext (λ m. ap (λ u. option_map leg_of (u m)) e ∙ co
 pub links_put : {T : Type 0} (a a2 : ℕ → Option (Row T)) (x : ℕ) (v : Option (Row T)) → a2 ≡ put a x v → (λ m. option_map link_of (a2 m)) ≡ put (λ m. option_map link_of (a m)) x (option_map link_of v)
 links_put a a2 x v e = fun_ext (λ m. ap (λ u. option_map link_of (u m)) e ∙ cond_link (nat_eq x m) v (a m))
 
-pub same_rows : {T : Type 0} (a a2 : ℕ → Option (Row T)) (roots : Group → Option ℕ) (fl : ℕ → Option ℕ) (k : ℕ) → a2 ≡ a → IsQueues (λ m. option_map leg_of (a m)) (λ m. option_map link_of (a m)) roots fl k → IsQueues (λ m. option_map leg_of (a2 m)) (λ m. option_map link_of (a2 m)) roots fl k
+pub same_rows : {T : Type 0} (a a2 : ℕ → Option (Row T)) (roots : Group → Option ℕ) (fl : ℕ → ℕ) (k : ℕ) → a2 ≡ a → IsQueues (λ m. option_map leg_of (a m)) (λ m. option_map link_of (a m)) roots fl k → IsQueues (λ m. option_map leg_of (a2 m)) (λ m. option_map link_of (a2 m)) roots fl k
 same_rows a a2 roots fl k e q = subst (λ u. IsQueues (λ m. option_map leg_of (u m)) (λ m. option_map link_of (u m)) roots fl k) (sym e) q
 
 -- a new leg is in no tree
@@ -112,7 +112,7 @@ waiting_in_no_flight t s content = and_right (nat_eq s.0 t) false refl
 none_in : (T : Type 0) (g : Group) (n : ℕ) → is_in {T = T} (λ m. None) g n ≡ true → ⊥
 none_in T g n e = absurd (cc)
 
-nothing : {T : Type 0} (roots : Group → Option ℕ) (fl : ℕ → Option ℕ) (k : ℕ) → ((g : Group) → roots g ≡ None) → ((s : ℕ) → fl s ≡ None) → IsQueues {T = T} (λ m. None) (λ m. None) roots fl k
+nothing : {T : Type 0} (roots : Group → Option ℕ) (fl : ℕ → ℕ) (k : ℕ) → ((g : Group) → roots g ≡ None) → ((s : ℕ) → fl s ≡ 0) → IsQueues {T = T} (λ m. None) (λ m. None) roots fl k
 nothing {T} roots fl k r f = record {
   trees = λ g. record {
     there = λ n h. absurd (none_in T g n h);
@@ -124,11 +124,11 @@ nothing {T} roots fl k r f = record {
     right = λ p n h e. absurd (none_in T g p h);
     apart = λ p n h e q. none_in T g p h;
   };
-  flying = λ s n. ap (λ o. names o n) (f s);
+  flying = λ s. ∣ record { numbers = []; these = λ n. refl; apart = refl; counted = sym (f s) } ∣₁;
   range = λ n l e. absurd (none_leg e);
 }
 
-pub empty : {T : Type 0} (a : ℕ → Option (Row T)) (roots : Group → Option ℕ) (fl : ℕ → Option ℕ) (k : ℕ) → a ≡ (λ n. None) → ((g : Group) → roots g ≡ None) → ((s : ℕ) → fl s ≡ None) → IsQueues (λ m. option_map leg_of (a m)) (λ m. option_map link_of (a m)) roots fl k
+pub empty : {T : Type 0} (a : ℕ → Option (Row T)) (roots : Group → Option ℕ) (fl : ℕ → ℕ) (k : ℕ) → a ≡ (λ n. None) → ((g : Group) → roots g ≡ None) → ((s : ℕ) → fl s ≡ 0) → IsQueues (λ m. option_map leg_of (a m)) (λ m. option_map link_of (a m)) roots fl k
 empty a roots fl k e r f = subst (λ u. IsQueues (λ m. option_map leg_of (u m)) (λ m. option_map link_of (u m)) roots fl k) (sym e) (nothing roots fl k r f)
 
 pub no_legs : {T : Type 0} (a : ℕ → Option (Row T)) → a ≡ (λ n. None) → (n : ℕ) → option_map leg_of (a n) ≡ None

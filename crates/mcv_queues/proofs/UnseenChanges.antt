@@ -1,6 +1,7 @@
 -- What neither a leg's server nor its state says, changes no group, no server and nothing in flight.
 use Rattle.std.proofs.Common.{◌≡◌, ◌&&◌, ◌<◌, inl, inr, cond, ℕ, Bool, true, false, nat_eq, Option, Some, None, refl, sym, ap, subst, ◌∙◌}
 use Rattle.std.proofs.Math.Path.{fun_ext}
+use Rattle.std.proofs.Math.Logic.{∥∥₁_map}
 use Rattle.std.specs.Prelude.{option_map}
 use Rattle.std.proofs.lemmas.Bool.{cases_eq}
 use Rattle.mcv_queues.specs.declared.leg.Leg.{Leg}
@@ -42,10 +43,10 @@ module _ {T : Type 0} (change : Leg T → Leg T) (same : IsUnseen change) where
   server_kept None k h l e = absurd (none_leg e)
   server_kept (Some o) k h l e = subst (λ j. j < k) (ap (λ s. s.0) (sym (same.server o)) ∙ ap (λ y. y.server.0) (inner_leg (change o) l e)) (h o refl)
 
-  pub sound : (legs legs2 : ℕ → Option (Leg T)) (f f2 : ℕ → Option Link) (roots : Group → Option ℕ) (fl : ℕ → Option ℕ) (k x : ℕ) → legs2 ≡ altered change legs x → f2 ≡ f → IsQueues legs f roots fl k → IsQueues legs2 f2 roots fl k
+  pub sound : (legs legs2 : ℕ → Option (Leg T)) (f f2 : ℕ → Option Link) (roots : Group → Option ℕ) (fl : ℕ → ℕ) (k x : ℕ) → legs2 ≡ altered change legs x → f2 ≡ f → IsQueues legs f roots fl k → IsQueues legs2 f2 roots fl k
   sound legs legs2 f f2 roots fl k x el ef q = record {
     trees = λ g. carried (is_in legs g) (is_in legs2 g) f f2 (roots g) (roots g) (q.trees g) refl (λ n. ap (λ o. is_group o g) (unseen group_of legs legs2 x change group_kept el n)) (λ n h. ap (λ u. u n) ef);
-    flying = λ s n. q.flying s n ∙ sym (unseen (is_in_flight_to s) legs legs2 x change (flight_kept s) el n);
+    flying = λ s. ∥∥₁_map (q.flying s) (λ f. record { numbers = f.numbers; these = λ n. f.these n ∙ sym (unseen (is_in_flight_to s) legs legs2 x change (flight_kept s) el n); apart = f.apart; counted = f.counted });
     range = range_put legs legs2 k x (option_map change (legs x)) q.range el (server_kept (legs x) k (q.range x));
   }
 

@@ -7,6 +7,7 @@ pub mod Rows
 pub mod Melding
 pub mod Groups
 pub mod Roots
+pub mod Flights
 pub mod Soundness
 pub mod Queues
 pub mod Marks

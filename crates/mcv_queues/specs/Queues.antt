@@ -13,8 +13,8 @@ legs q = rows.legs q.rows
 abbrev pub room : {T : Type 0} → Queues T → ℕ
 room q = rows.room q.rows
 
--- what is in flight to each server
-abbrev pub in_flight : {T : Type 0} → Queues T → ℕ → Option ℕ
+-- how many legs are in flight to each server, sent or in replay
+abbrev pub in_flight : {T : Type 0} → Queues T → ℕ → ℕ
 in_flight q = roots.flights q.roots
 
 -- how many servers there are

@@ -1,4 +1,4 @@
--- The roots of the groups, and what is in flight.
+-- The roots of the groups, and how many legs are in flight.
 use Rattle.std.specs.Prelude.{◌≡◌, ℕ, Bool, true, Option, None, length, get_or, nat_lt, cond}
 use Rattle.mcv_queues.specs.Groups.{same_group}
 use Rattle.mcv_queues.specs.declared.roots.Group.{Group}
@@ -8,7 +8,7 @@ use Rattle.mcv_queues.specs.declared.roots.Roots.{Roots}
 
 -- a server without legs
 abbrev pub idle : Server
-idle = record { waiting = None; spooled = None; flight = None }
+idle = record { waiting = None; spooled = None; flying = 0 }
 
 abbrev pub server_at : Roots → ℕ → Server
 server_at r s = get_or r.servers.items s idle
@@ -21,9 +21,9 @@ root_of r HeldLegs = r.held
 root_of r RefusedLegs = r.refused
 root_of r LegsInReplay = r.in_replay
 
--- what is in flight to each server
-abbrev pub flights : Roots → ℕ → Option ℕ
-flights r s = (server_at r s).flight
+-- how many legs are in flight to each server
+abbrev pub flights : Roots → ℕ → ℕ
+flights r s = (server_at r s).flying
 
 -- how many servers are in the table
 abbrev pub known : Roots → ℕ

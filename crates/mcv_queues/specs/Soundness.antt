@@ -3,16 +3,15 @@ use Rattle.std.specs.Prelude.{◌≡◌, ◌<◌, ℕ, Option, Some, None}
 use Rattle.mcv_queues.specs.declared.leg.Leg.{Leg}
 use Rattle.mcv_queues.specs.declared.rows.Link.{Link}
 use Rattle.mcv_queues.specs.declared.roots.Group.{Group}
-use Rattle.mcv_queues.specs.Numbers.{names}
-use Rattle.mcv_queues.specs.Legs.{is_in_flight_to}
+use Rattle.mcv_queues.specs.Flights.{AreFlying}
 use Rattle.mcv_queues.specs.Forest.{IsForest}
 use Rattle.mcv_queues.specs.Groups.{is_in}
 use Rattle.mcv_queues.specs.Heap.{without}
 
--- the legs of each group form a heap at its root; what is in flight to each server is the leg that says so of itself
-pub record IsQueues {T : Type 0} (legs : ℕ → Option (Leg T)) (f : ℕ → Option Link) (roots : Group → Option ℕ) (flights : ℕ → Option ℕ) (known : ℕ) : Type 0 where
+-- the legs of each group form a heap at its root; so many legs are in flight to each server
+pub record IsQueues {T : Type 0} (legs : ℕ → Option (Leg T)) (f : ℕ → Option Link) (roots : Group → Option ℕ) (flights : ℕ → ℕ) (known : ℕ) : Type 0 where
   pub trees : (g : Group) → IsForest (is_in legs g) f (roots g) None None
-  pub flying : (s n : ℕ) → names (flights s) n ≡ is_in_flight_to s (legs n)
+  pub flying : (s : ℕ) → ∥ AreFlying legs s (flights s) ∥₁
   pub range : (n : ℕ) (l : Leg T) → legs n ≡ Some l → l.server.0 < known
 
 -- the legs of each group form a heap at its root

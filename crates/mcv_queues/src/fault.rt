@@ -5,7 +5,7 @@ use thiserror::Error;
 /// Why a server is handed no leg. `Busy` is looked for first.
 #[derive(Clone, Copy, Debug, PartialEq, Eq, Error)]
 pub enum QueueFault {
-    #[error("a leg is in flight to the server")]
+    #[error("as many legs as may be are in flight to the server")]
     Busy,
     #[error("no leg waits for the server")]
     NothingWaiting,

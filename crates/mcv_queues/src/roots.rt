@@ -1,6 +1,6 @@
-//! The first leg of each group, and what is in flight to each server.
+//! The first leg of each group, and how many legs are in flight to each server.
 
-ghost use Rattle.std.specs.Prelude.{◌≡◌, ◌<◌, ℕ, cond, nat_eq, Option, None, IfOk};
+ghost use Rattle.std.specs.Prelude.{◌≡◌, ◌<◌, ◌+◌, ◌-◌, ◌^◌, ℕ, cond, nat_eq, nat_le, Option, None, IfOk};
 ghost use Rattle.mcv_queues.specs.declared.roots.Group.{Group};
 ghost use Rattle.mcv_queues.specs.Roots.{server_at, root_of, flights, known, put_root, IsKnown};
 
@@ -17,15 +17,24 @@ pub enum Group {
     LegsInReplay,
 }
 
-/// The first legs of one server, and the leg that is in flight to it.
+/// The first legs of one server, and how many are in flight to it.
 #[derive(Clone, Copy)]
 pub(crate) struct Server {
     pub waiting: Option<u64>,
     pub spooled: Option<u64>,
-    pub flight: Option<u64>,
+    pub flying: usize,
 }
 
-/// The number of the first leg of each group, and of what is in flight.
+impl Server {
+    /// Whether so many legs, or more, are in flight.
+    pub fn is_full(self, limit: usize) -> bool
+        ensures { result ≡ nat_le limit self.flying }
+    {
+        self.flying >= limit
+    }
+}
+
+/// The number of the first leg of each group, and how many legs are in flight.
 #[derive(Drop)]
 pub(crate) struct Roots {
     pub servers: Vec<Server>,
@@ -38,13 +47,13 @@ impl Roots {
     /// The roots of this many servers without legs.
     pub fn new(alloc: Global, count: usize) -> Result<Roots, AllocError>
         ensures roots { IfOk result (λ roots. (group : Group) → root_of roots group ≡ None) }
-        ensures flights { IfOk result (λ roots. (s : ℕ) → flights roots s ≡ None) }
+        ensures flights { IfOk result (λ roots. (s : ℕ) → flights roots s ≡ 0) }
         ensures known { IfOk result (λ roots. known roots ≡ count) }
     {
         let idle = Server {
             waiting: None,
             spooled: None,
-            flight: None,
+            flying: 0,
         };
         let servers = vec![in alloc; idle; count]?;
         Ok(Roots {
@@ -64,7 +73,7 @@ impl Roots {
             None => Server {
                 waiting: None,
                 spooled: None,
-                flight: None,
+                flying: 0,
             },
         }
     }
@@ -95,7 +104,7 @@ impl Roots {
                 self.servers[server] = Server {
                     waiting: root,
                     spooled: old.spooled,
-                    flight: old.flight,
+                    flying: old.flying,
                 };
             }
             Group::SpooledFor(server) => {
@@ -103,7 +112,7 @@ impl Roots {
                 self.servers[server] = Server {
                     waiting: old.waiting,
                     spooled: root,
-                    flight: old.flight,
+                    flying: old.flying,
                 };
             }
             Group::HeldLegs => self.held = root,
@@ -112,18 +121,41 @@ impl Roots {
         }
     }
 
-    /// Sets what is in flight to a server.
-    pub fn set_flight(&mut self, server: usize, flight: Option<u64>)
+    /// One leg more is in flight to a server.
+    pub fn fly(&mut self, server: usize)
+        requires known { server < known self.old }
+        requires room { flights self.old server + 1 < 2 ^ 64 }
+        ensures roots { (group : Group) → root_of self.new group ≡ root_of self.old group }
+        ensures flights { (s : ℕ) → flights self.new s ≡ cond (nat_eq server s) (flights self.old server + 1) (flights self.old s) }
+        ensures known { known self.new ≡ known self.old }
+    {
+        let old = self.server(server);
+        self.set_flying(server, old.flying + 1);
+    }
+
+    /// One leg less is in flight to a server.
+    pub fn land(&mut self, server: usize)
         requires { server < known self.old }
         ensures roots { (group : Group) → root_of self.new group ≡ root_of self.old group }
-        ensures flights { (s : ℕ) → flights self.new s ≡ cond (nat_eq server s) flight (flights self.old s) }
+        ensures flights { (s : ℕ) → flights self.new s ≡ cond (nat_eq server s) (flights self.old server - 1) (flights self.old s) }
+        ensures known { known self.new ≡ known self.old }
+    {
+        let old = self.server(server);
+        self.set_flying(server, old.flying.saturating_sub(1));
+    }
+
+    /// Sets how many legs are in flight to a server.
+    fn set_flying(&mut self, server: usize, flying: usize)
+        requires { server < known self.old }
+        ensures roots { (group : Group) → root_of self.new group ≡ root_of self.old group }
+        ensures flights { (s : ℕ) → flights self.new s ≡ cond (nat_eq server s) flying (flights self.old s) }
         ensures known { known self.new ≡ known self.old }
     {
         let old = self.server(server);
         self.servers[server] = Server {
             waiting: old.waiting,
             spooled: old.spooled,
-            flight,
+            flying,
         };
     }
 }

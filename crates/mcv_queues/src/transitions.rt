@@ -3,9 +3,10 @@
 //! Each call looks up a few rows of the map; one that changes a leg's state besides takes O(log n) of them, n being the
 //! legs of its group, counted over all calls.
 
-ghost use Rattle.std.specs.Prelude.{◌≡◌, ◌<◌, ◌≤◌, ◌+◌, ℕ, true, false, None, Some, OnOk, OnErr, IfOk, IfErr, IsSome, IfSome, option_map, option_copied, nat_eq, cond};
+ghost use Rattle.std.specs.Prelude.{◌≡◌, ◌<◌, ◌≤◌, ◌+◌, ◌-◌, ◌^◌, ℕ, true, false, None, Some, OnOk, OnErr, IfOk, IfErr, IfSome, option_map, option_copied, nat_eq, cond};
 ghost use Rattle.mcv_queues.specs.Numbers.{put, IsLeast, leg_number};
 ghost use Rattle.mcv_queues.specs.Legs.{IsSentTo, is_in_flight, is_in_flight_to, is_flight, rests_at, with_state, with_stored, with_content, leg_content};
+ghost use Rattle.mcv_queues.specs.Flights.{AreFlying};
 ghost use Rattle.mcv_queues.specs.Groups.{IsFirstHeld, is_in};
 ghost use Rattle.mcv_queues.specs.declared.roots.Group.TheVariants.{WaitingFor, SpooledFor, HeldLegs, RefusedLegs, LegsInReplay};
 ghost use Rattle.mcv_queues.specs.Queues.{legs, room, in_flight, servers};
@@ -22,7 +23,7 @@ impl<T: Drop> Queues<T> {
     /// Queues for this many servers, numbered from 0, without legs. An error is that memory ran out.
     pub fn new(alloc: Global, count: usize) -> Result<Queues<T>, AllocError>
         ensures legs { IfOk result (λ queues. (n : ℕ) → legs queues n ≡ None) }
-        ensures flights { IfOk result (λ queues. (s : ℕ) → in_flight queues s ≡ None) }
+        ensures flights { IfOk result (λ queues. (s : ℕ) → in_flight queues s ≡ 0) }
         ensures servers { IfOk result (λ queues. servers queues ≡ count) }
     {
         let roots = Roots::new(alloc, count)?;
@@ -110,18 +111,18 @@ impl<T: Drop> Queues<T> {
         self.rows.change_state(&mut self.roots, number, state);
     }
 
-    /// A leg of a server to which nothing is in flight gets a state in which it is in flight.
+    /// A leg of a server that isn't in flight gets a state in which it is.
     fn send_out(&mut self, server: usize, number: u64, state: State)
         requires there { rests_at server (legs self.old number) ≡ true }
-        requires free { in_flight self.old server ≡ None }
+        requires free { in_flight self.old server + 1 < 2 ^ 64 }
         requires state { is_flight state ≡ true }
         ensures legs { legs self.new ≡ with_state (legs self.old) number state }
-        ensures flights { (s : ℕ) → in_flight self.new s ≡ cond (nat_eq server s) (Some number) (in_flight self.old s) }
+        ensures flights { (s : ℕ) → in_flight self.new s ≡ cond (nat_eq server s) (in_flight self.old server + 1) (in_flight self.old s) }
         ensures servers { servers self.new ≡ servers self.old }
         ensures room { room self.new ≡ room self.old }
     {
         self.rows.change_state(&mut self.roots, number, state);
-        self.roots.set_flight(server, Some(number));
+        self.roots.fly(server);
     }
 
     /// A leg that is in flight gets a state in which it isn't.
@@ -129,12 +130,12 @@ impl<T: Drop> Queues<T> {
         requires there { is_in_flight (legs self.old number) ≡ true }
         requires state { is_flight state ≡ false }
         ensures legs { legs self.new ≡ with_state (legs self.old) number state }
-        ensures flights { (s : ℕ) → in_flight self.new s ≡ cond (is_in_flight_to s (legs self.old number)) None (in_flight self.old s) }
+        ensures flights { (s : ℕ) → in_flight self.new s ≡ cond (is_in_flight_to s (legs self.old number)) (in_flight self.old s - 1) (in_flight self.old s) }
         ensures servers { servers self.new ≡ servers self.old }
         ensures room { room self.new ≡ room self.old }
     {
         let server = self.rows.change_state(&mut self.roots, number, state);
-        self.roots.set_flight(server, None);
+        self.roots.land(server);
     }
 
     /// A leg in flight was performed, or needs no more: it isn't there any more. Gives what its caller kept of it.
@@ -142,12 +143,12 @@ impl<T: Drop> Queues<T> {
         requires there { is_in_flight (legs self.old leg.0) ≡ true }
         ensures legs { legs self.new ≡ put (legs self.old) leg.0 None }
         ensures content { result ≡ option_map leg_content (legs self.old leg.0) }
-        ensures flights { (s : ℕ) → in_flight self.new s ≡ cond (is_in_flight_to s (legs self.old leg.0)) None (in_flight self.old s) }
+        ensures flights { (s : ℕ) → in_flight self.new s ≡ cond (is_in_flight_to s (legs self.old leg.0)) (in_flight self.old s - 1) (in_flight self.old s) }
         ensures servers { servers self.new ≡ servers self.old }
         ensures room { room self.old ≤ room self.new }
     {
         let server = self.rows.leave(&mut self.roots, leg.0);
-        self.roots.set_flight(server, None);
+        self.roots.land(server);
         self.rows.remove(leg.0)
     }
 
@@ -156,29 +157,29 @@ impl<T: Drop> Queues<T> {
         requires { IsSentTo server.0 (legs self.old leg.0) }
         ensures legs { legs self.new ≡ put (legs self.old) leg.0 None }
         ensures content { result ≡ option_map leg_content (legs self.old leg.0) }
-        ensures flights { (s : ℕ) → in_flight self.new s ≡ cond (is_in_flight_to s (legs self.old leg.0)) None (in_flight self.old s) }
+        ensures flights { (s : ℕ) → in_flight self.new s ≡ cond (is_in_flight_to s (legs self.old leg.0)) (in_flight self.old s - 1) (in_flight self.old s) }
         ensures servers { servers self.new ≡ servers self.old }
         ensures room { room self.old ≤ room self.new }
     {
-        self.roots.set_flight(server.0 as usize, None);
+        self.roots.land(server.0 as usize);
         self.rows.remove(leg.0)
     }
 
-    /// Sends the first leg that waits for a server: the one with the least number. `Busy` while one of the server's legs
-    /// is in flight, else `NothingWaiting` where none waits, also for a server that isn't in the table; nothing changes then.
-    pub fn next(&mut self, server: ServerId) -> Result<LegId, QueueFault>
+    /// Sends the first leg that waits for a server: the one with the least number. `Busy` while so many of the server's legs
+    /// are in flight, else `NothingWaiting` where none waits, also for a server that isn't in the table; nothing changes then.
+    pub fn next(&mut self, server: ServerId, limit: usize) -> Result<LegId, QueueFault>
         ensures first { IfOk result (λ leg. IsLeast (is_in (legs self.old) (WaitingFor server.0)) (Some leg.0)) }
         ensures legs { IfOk result (λ leg. legs self.new ≡ with_state (legs self.old) leg.0 State.Sent) }
-        ensures flights { IfOk result (λ leg. (s : ℕ) → in_flight self.new s ≡ cond (nat_eq server.0 s) (Some leg.0) (in_flight self.old s)) }
-        ensures free { OnOk result (in_flight self.old server.0 ≡ None) }
-        ensures busy { IfErr result (λ fault. fault ≡ QueueFault.Busy → IsSome (in_flight self.old server.0)) }
-        ensures nothing { IfErr result (λ fault. fault ≡ QueueFault.NothingWaiting → (in_flight self.old server.0 ≡ None) × IsLeast (is_in (legs self.old) (WaitingFor server.0)) None) }
+        ensures flights { OnOk result ((s : ℕ) → in_flight self.new s ≡ cond (nat_eq server.0 s) (in_flight self.old server.0 + 1) (in_flight self.old s)) }
+        ensures free { OnOk result (in_flight self.old server.0 < limit) }
+        ensures busy { IfErr result (λ fault. fault ≡ QueueFault.Busy → limit ≤ in_flight self.old server.0) }
+        ensures nothing { IfErr result (λ fault. fault ≡ QueueFault.NothingWaiting → (in_flight self.old server.0 < limit) × IsLeast (is_in (legs self.old) (WaitingFor server.0)) None) }
         ensures err { OnErr result (self.new ≡ self.old) }
         ensures servers { servers self.new ≡ servers self.old }
         ensures room { room self.new ≡ room self.old }
     {
         let state = self.roots.server(server.0 as usize);
-        if state.flight.is_some() {
+        if state.is_full(limit) {
             return Err(QueueFault::Busy);
         }
         let Some(number) = state.waiting else {
@@ -189,20 +190,20 @@ impl<T: Drop> Queues<T> {
     }
 
     /// Sends the first leg of a server that is in the spool: the one with the least number. It stays in the spool. `Busy`
-    /// while one of the server's legs is in flight, else `NothingWaiting` where none is in the spool; nothing changes then.
-    pub fn replay(&mut self, server: ServerId) -> Result<LegId, QueueFault>
+    /// while so many of the server's legs are in flight, else `NothingWaiting` where none is in the spool; nothing changes then.
+    pub fn replay(&mut self, server: ServerId, limit: usize) -> Result<LegId, QueueFault>
         ensures first { IfOk result (λ leg. IsLeast (is_in (legs self.old) (SpooledFor server.0)) (Some leg.0)) }
         ensures legs { IfOk result (λ leg. legs self.new ≡ with_state (legs self.old) leg.0 State.InReplay) }
-        ensures flights { IfOk result (λ leg. (s : ℕ) → in_flight self.new s ≡ cond (nat_eq server.0 s) (Some leg.0) (in_flight self.old s)) }
-        ensures free { OnOk result (in_flight self.old server.0 ≡ None) }
-        ensures busy { IfErr result (λ fault. fault ≡ QueueFault.Busy → IsSome (in_flight self.old server.0)) }
-        ensures nothing { IfErr result (λ fault. fault ≡ QueueFault.NothingWaiting → (in_flight self.old server.0 ≡ None) × IsLeast (is_in (legs self.old) (SpooledFor server.0)) None) }
+        ensures flights { OnOk result ((s : ℕ) → in_flight self.new s ≡ cond (nat_eq server.0 s) (in_flight self.old server.0 + 1) (in_flight self.old s)) }
+        ensures free { OnOk result (in_flight self.old server.0 < limit) }
+        ensures busy { IfErr result (λ fault. fault ≡ QueueFault.Busy → limit ≤ in_flight self.old server.0) }
+        ensures nothing { IfErr result (λ fault. fault ≡ QueueFault.NothingWaiting → (in_flight self.old server.0 < limit) × IsLeast (is_in (legs self.old) (SpooledFor server.0)) None) }
         ensures err { OnErr result (self.new ≡ self.old) }
         ensures servers { servers self.new ≡ servers self.old }
         ensures room { room self.new ≡ room self.old }
     {
         let state = self.roots.server(server.0 as usize);
-        if state.flight.is_some() {
+        if state.is_full(limit) {
             return Err(QueueFault::Busy);
         }
         let Some(number) = state.spooled else {
@@ -216,7 +217,7 @@ impl<T: Drop> Queues<T> {
     pub fn held(&mut self, leg: LegId)
         requires { is_in_flight (legs self.old leg.0) ≡ true }
         ensures legs { legs self.new ≡ with_state (legs self.old) leg.0 State.Held }
-        ensures flights { (s : ℕ) → in_flight self.new s ≡ cond (is_in_flight_to s (legs self.old leg.0)) None (in_flight self.old s) }
+        ensures flights { (s : ℕ) → in_flight self.new s ≡ cond (is_in_flight_to s (legs self.old leg.0)) (in_flight self.old s - 1) (in_flight self.old s) }
         ensures servers { servers self.new ≡ servers self.old }
         ensures room { room self.new ≡ room self.old }
     {
@@ -227,7 +228,7 @@ impl<T: Drop> Queues<T> {
     pub fn replay_failed(&mut self, leg: LegId)
         requires { is_in_flight (legs self.old leg.0) ≡ true }
         ensures legs { legs self.new ≡ with_state (legs self.old) leg.0 State.InSpool }
-        ensures flights { (s : ℕ) → in_flight self.new s ≡ cond (is_in_flight_to s (legs self.old leg.0)) None (in_flight self.old s) }
+        ensures flights { (s : ℕ) → in_flight self.new s ≡ cond (is_in_flight_to s (legs self.old leg.0)) (in_flight self.old s - 1) (in_flight self.old s) }
         ensures servers { servers self.new ≡ servers self.old }
         ensures room { room self.new ≡ room self.old }
     {
@@ -278,12 +279,12 @@ impl<T: Drop> Queues<T> {
         Some(LegId(number))
     }
 
-    /// The leg that is in flight to a server, sent or in replay.
-    pub fn in_flight(&self, server: ServerId) -> Option<LegId>
-        ensures { option_map leg_number result ≡ in_flight self.now server.0 }
+    /// How many legs are in flight to a server, sent or in replay.
+    pub fn in_flight(&self, server: ServerId) -> usize
+        ensures flights { result ≡ in_flight self.now server.0 }
+        ensures counted { ∥ AreFlying (legs self.now) server.0 result ∥₁ }
     {
-        let number = self.roots.server(server.0 as usize).flight?;
-        Some(LegId(number))
+        self.roots.server(server.0 as usize).flying
     }
 
     /// Of the legs of all servers that are in replay the one with the least number.

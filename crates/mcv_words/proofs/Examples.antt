@@ -177,7 +177,7 @@ run_of = option_map (λ p. (
   first_of (codes "listen") p.1,
   first_of (codes "spool") p.1,
   one_of (codes "sessions") p.1,
-  one_of (codes "proxies") p.1,
+  one_of (codes "hubs") p.1,
   one_of (codes "window") p.1,
   one_of (codes "server-timeout") p.1,
   one_of (codes "client-timeout") p.1,
@@ -191,9 +191,9 @@ sessions_named : run_of (named (run_line ++ codes "--sessions" ∷ codes "3" ∷
 unfolding clap_on_literals
 sessions_named = refl
 
-proxies_named : run_of (named (run_line ++ codes "--proxies" ∷ codes "4" ∷ [])) ≡ Some (Some (codes "h:1"), Some (codes "f"), None, Some (codes "4"), Some (codes "0"), None, None)
+hubs_named : run_of (named (run_line ++ codes "--hubs" ∷ codes "4" ∷ [])) ≡ Some (Some (codes "h:1"), Some (codes "f"), None, Some (codes "4"), Some (codes "0"), None, None)
 unfolding clap_on_literals
-proxies_named = refl
+hubs_named = refl
 
 run_window_named : run_of (named (run_line ++ codes "--window" ∷ codes "60" ∷ [])) ≡ Some (Some (codes "h:1"), Some (codes "f"), None, Some (codes "1"), Some (codes "60"), None, None)
 unfolding clap_on_literals
@@ -212,6 +212,10 @@ no_clients : faults (run_line ++ codes "--max-clients" ∷ codes "0" ∷ []) ≡
 unfolding clap_on_literals
 no_clients = refl
 
+admin_named : option_map (λ (p : Text × List Row). one_of (codes "admin") p.1) (named (run_line ++ codes "--admin" ∷ codes "127.0.0.1:5001" ∷ [])) ≡ Some (Some (codes "127.0.0.1:5001"))
+unfolding clap_on_literals
+admin_named = refl
+
 no_spool : faults at_address ≡ MissingRequiredArgument ∷ []
 unfolding clap_on_literals
 no_spool = refl
@@ -220,13 +224,13 @@ no_sessions : faults (run_line ++ codes "--sessions" ∷ codes "0" ∷ []) ≡ V
 unfolding clap_on_literals
 no_sessions = refl
 
-no_proxies : faults (run_line ++ codes "--proxies" ∷ codes "0" ∷ []) ≡ ValueValidation ∷ []
+no_hubs : faults (run_line ++ codes "--hubs" ∷ codes "0" ∷ []) ≡ ValueValidation ∷ []
 unfolding clap_on_literals
-no_proxies = refl
+no_hubs = refl
 
-too_many_proxies : faults (run_line ++ codes "--proxies" ∷ codes "65" ∷ []) ≡ ValueValidation ∷ []
+too_many_hubs : faults (run_line ++ codes "--hubs" ∷ codes "9" ∷ []) ≡ ValueValidation ∷ []
 unfolding clap_on_literals
-too_many_proxies = refl
+too_many_hubs = refl
 
 no_server_timeout : faults (run_line ++ codes "--server-timeout" ∷ codes "0" ∷ []) ≡ ValueValidation ∷ []
 unfolding clap_on_literals

@@ -12,7 +12,7 @@ use Rattle.clap.specs.declared.parser.matches.ArgMatches.{ArgMatches}
 use Rattle.clap.specs.declared.parser.matches.ArgMatches.TheViews.{out-ArgMatches, out-SubCommand}
 use Rattle.clap.specs.declared.parser.matches.SubCommand.{SubCommand}
 use Rattle.clap.specs.Simple.{subcommand_rows}
-use Rattle.mcv_words.specs.Ranges.{proxy_limit, session_limit, timeout_limit, window_limit, client_limit}
+use Rattle.mcv_words.specs.Ranges.{session_limit, timeout_limit, window_limit, client_limit, hub_limit}
 use Rattle.mcv_words.specs.Words.{faults, named, CanRun, IsCheckOf, IsDrawOf, IsFaultOfKind, IsGivenIn, IsJobOf, IsLineFault, IsNumberOf, IsRunOf, IsSpoolOf, MayBeGivenIn, IsMendOf}
 use Rattle.mcv_words.specs.declared.words.Job.{Job}
 use Rattle.mcv_words.specs.declared.words.Job.TheVariants.{Legs, Check, Draw, Mend, Run, Spool}
@@ -118,7 +118,7 @@ can_run rows has = record {
   listen = subst (λ (o : Option Text). IsSome o) (sym has.listen.1) refl;
   spool = subst (λ (o : Option Text). IsSome o) (sym has.spool.1) refl;
   sessions = may_be_given_in (codes "sessions") 1 session_limit rows has.sessions;
-  proxies = given_in (codes "proxies") 1 proxy_limit rows has.proxies;
+  hubs = given_in (codes "hubs") 1 hub_limit rows has.hubs;
   window = given_in (codes "window") 0 window_limit rows has.window;
   server_timeout = may_be_given_in (codes "server-timeout") 1 timeout_limit rows has.server_timeout;
   client_timeout = may_be_given_in (codes "client-timeout") 1 timeout_limit rows has.client_timeout;

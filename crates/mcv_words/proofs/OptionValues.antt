@@ -23,8 +23,8 @@ use Rattle.clap.specs.declared.builder.value_parser.ValueParser.TheVariants as p
 use Rattle.clap.specs.declared.builder.value_parser.Reading.TheVariants.{AsWritten}
 use Rattle.clap.specs.declared.parser.matches.ValueSource.{ValueSource}
 use Rattle.clap.specs.declared.parser.matches.ValueSource.TheVariants.{CommandLine, DefaultValue}
-use Rattle.mcv_words.specs.Ranges.{proxy_limit, session_limit, timeout_limit, window_limit, client_limit}
-use Rattle.mcv_words.specs.Words.{at_rule, cert_rule, check_app, client_timeout_rule, faults, file_rule, flag_rule, legs_app, listen_rule, mcv_app, named, proxies_rule, quiet_rule, run_app, server_timeout_rule, sessions_rule, spool_app, spool_rule, window_rule, max_clients_rule}
+use Rattle.mcv_words.specs.Ranges.{client_limit, hub_limit, session_limit, timeout_limit, window_limit}
+use Rattle.mcv_words.specs.Words.{admin_rule, at_rule, cert_rule, check_app, client_timeout_rule, faults, file_rule, flag_rule, hubs_rule, legs_app, listen_rule, mcv_app, named, quiet_rule, run_app, server_timeout_rule, sessions_rule, spool_app, spool_rule, window_rule, max_clients_rule}
 use Rattle.mcv_words.proofs.CommandIsNamed.{StopsAtCommand, none_below, none_of, some_kind, stop_of, stops_at_command}
 
 -- ---- rows
@@ -490,11 +490,11 @@ sessions_tame (v ∷ vs) rows none good =
     let taken = none_of (range_kinds 1 1 (suc (length vs))) (set_fault false (with_index 1 (filled sessions_rule)) (v ∷ vs) rows) none in
     written run.rules (codes "sessions") v vs rows (value_passes (repeat_fault false (codes "sessions") rows) [] (values_fault (with_index 1 (filled sessions_rule)) vs) _ taken.1) good
 
-proxies_tame : IsTame run (with_index 1 (filled proxies_rule))
-proxies_tame [] rows none good = absurd (some_kind InvalidValue [] none)
-proxies_tame (v ∷ vs) rows none good =
-    let taken = none_of (range_kinds 1 1 (suc (length vs))) (set_fault false (with_index 1 (filled proxies_rule)) (v ∷ vs) rows) none in
-    written run.rules (codes "proxies") v vs rows (value_passes (repeat_fault false (codes "proxies") rows) [] (values_fault (with_index 1 (filled proxies_rule)) vs) _ taken.1) good
+hubs_tame : IsTame run (with_index 1 (filled hubs_rule))
+hubs_tame [] rows none good = absurd (some_kind InvalidValue [] none)
+hubs_tame (v ∷ vs) rows none good =
+    let taken = none_of (range_kinds 1 1 (suc (length vs))) (set_fault false (with_index 1 (filled hubs_rule)) (v ∷ vs) rows) none in
+    written run.rules (codes "hubs") v vs rows (value_passes (repeat_fault false (codes "hubs") rows) [] (values_fault (with_index 1 (filled hubs_rule)) vs) _ taken.1) good
 
 window_tame : IsTame run (with_index 1 (filled window_rule))
 window_tame [] rows none good = absurd (some_kind InvalidValue [] none)
@@ -523,6 +523,10 @@ max_clients_tame (v ∷ vs) rows none good =
     written run.rules (codes "max-clients") v vs rows
     (value_passes (repeat_fault false (codes "max-clients") rows) [] (values_fault (with_index 1 (filled max_clients_rule)) vs) _ taken.1) good
 
+admin_tame : IsTame run (with_index 1 (filled admin_rule))
+admin_tame [] rows none good = absurd (some_kind InvalidValue [] none)
+admin_tame (v ∷ vs) rows none good = written run.rules (codes "admin") v vs rows refl good
+
 run_help : IsTame run (with_index 1 (filled help_rule))
 run_help values rows none good = absurd (no_help values rows none)
 
@@ -531,7 +535,7 @@ pub record HasAll (rows : List Row) : Type 0 where
   pub listen : (text : Text) × (first_of (codes "listen") rows ≡ Some text)
   pub spool : (text : Text) × (first_of (codes "spool") rows ≡ Some text)
   pub sessions : MayHaveNumber (codes "sessions") 1 session_limit rows
-  pub proxies : HasNumber (codes "proxies") 1 proxy_limit rows
+  pub hubs : HasNumber (codes "hubs") 1 hub_limit rows
   pub window : HasNumber (codes "window") 0 window_limit rows
   pub server_timeout : MayHaveNumber (codes "server-timeout") 1 timeout_limit rows
   pub client_timeout : MayHaveNumber (codes "client-timeout") 1 timeout_limit rows
@@ -544,34 +548,36 @@ both_given false b e = absurd (some_kind MissingRequiredArgument [] e)
 
 run_given : (words : List Text) → level_fault run [] nothing_held words false [] ≡ [] → HasAll (rows_after run.rules [] words)
 run_given words none =
-    let tame : AreTame run run.rules = (listen_tame, (spool_tame, (sessions_tame, (proxies_tame, (window_tame, (server_timeout_tame, (client_timeout_tame, (max_clients_tame, (run_help, tt))))))))) in
+    let tame : AreTame run run.rules = (listen_tame, (spool_tame, (sessions_tame, (hubs_tame, (window_tame, (server_timeout_tame, (client_timeout_tame, (max_clients_tame, (admin_tame, (run_help, tt)))))))))) in
     let start : List Row = (settled run.rules (walk run.rules [] nothing_held words).held).rows in
     let listened : List Row = with_default start (with_index 1 (filled listen_rule)) in
     let spooled : List Row = with_default listened (with_index 1 (filled spool_rule)) in
     let counted : List Row = with_default spooled (with_index 1 (filled sessions_rule)) in
-    let beside : List Row = with_default counted (with_index 1 (filled proxies_rule)) in
+    let beside : List Row = with_default counted (with_index 1 (filled hubs_rule)) in
     let all : List Row = with_default beside (with_index 1 (filled window_rule)) in
     let served : List Row = with_default all (with_index 1 (filled server_timeout_rule)) in
     let timed : List Row = with_default served (with_index 1 (filled client_timeout_rule)) in
-    let after : List Row = with_default timed (with_index 1 (filled max_clients_rule)) in
+    let seated : List Row = with_default timed (with_index 1 (filled max_clients_rule)) in
+    let after : List Row = with_default seated (with_index 1 (filled admin_rule)) in
     let same : counted ≡ start = unchanged (has_row (codes "sessions") spooled) spooled ∙ (unchanged (has_row (codes "spool") listened) listened ∙ unchanged (has_row (codes "listen") start) start) in
     let leaf = leaf_good run tame words none in
-    let first = defaulted run.rules (codes "proxies") (codes "1") counted refl refl (subst (λ (rows : List Row). AreGood run.rules rows) (sym same) leaf.0) in
+    let first = defaulted run.rules (codes "hubs") (codes "1") counted refl refl (subst (λ (rows : List Row). AreGood run.rules rows) (sym same) leaf.0) in
     let last = defaulted run.rules (codes "window") (codes "0") beside refl refl first.0 in
     let ended : rows_after run.rules [] words ≡ all =
     unchanged (has_row (codes "help") after) after
-    ∙ (unchanged (has_row (codes "max-clients") timed) timed ∙ (unchanged (has_row (codes "client-timeout") served) served ∙ unchanged (has_row (codes "server-timeout") all) all)) in
+    ∙ (unchanged (has_row (codes "admin") seated) seated
+    ∙ (unchanged (has_row (codes "max-clients") timed) timed ∙ (unchanged (has_row (codes "client-timeout") served) served ∙ unchanged (has_row (codes "server-timeout") all) all))) in
     let both = both_given (is_given (codes "listen") all) (is_given (codes "spool") all) (subst (λ (rows : List Row). check_fault run rows false ≡ []) ended leaf.1) in
     let listen = found_value run.rules (codes "listen") all (given_has (codes "listen") all both.0) last.0 in
     let spool = found_value run.rules (codes "spool") all (given_has (codes "spool") all both.1) last.0 in
-    let proxies = found_value run.rules (codes "proxies") all (kept (codes "proxies") (codes "window") (codes "0") beside first.1) last.0 in
+    let hubs = found_value run.rules (codes "hubs") all (kept (codes "hubs") (codes "window") (codes "0") beside first.1) last.0 in
     let window = found_value run.rules (codes "window") all last.1 last.0 in
     subst HasAll (sym ended)
     (record {
       listen = (listen.0, listen.1);
       spool = (spool.0, spool.1);
       sessions = may_have_value run.rules (codes "sessions") all last.0;
-      proxies = (proxies.0, proxies.2, proxies.3);
+      hubs = (hubs.0, hubs.2, hubs.3);
       window = (window.0, window.2, window.3);
       server_timeout = may_have_value run.rules (codes "server-timeout") all last.0;
       client_timeout = may_have_value run.rules (codes "client-timeout") all last.0;

@@ -5,9 +5,9 @@ use Rattle.std.specs.Prelude.{ℕ}
 abbrev pub session_limit : ℕ
 session_limit = 1000000000
 
--- the most proxies of a run, of which there is one at least
-abbrev pub proxy_limit : ℕ
-proxy_limit = 64
+-- the most hubs of a run, of which there is one at least
+abbrev pub hub_limit : ℕ
+hub_limit = 8
 
 -- the most milliseconds of a time limit, an hour; the least is 1
 abbrev pub timeout_limit : ℕ

@@ -8,7 +8,7 @@ use Rattle.clap.specs.declared.builder.action.ArgAction.TheVariants.{SetTrue}
 use Rattle.clap.specs.declared.builder.value_parser.ValueParser.TheVariants as parsers
 use Rattle.clap.specs.declared.error.kind.ErrorKind.{ErrorKind}
 use Rattle.clap.specs.declared.error.kind.ErrorKind.TheVariants.{DisplayHelp, DisplayVersion, OutOfMemory}
-use Rattle.mcv_words.specs.Ranges.{proxy_limit, session_limit, timeout_limit, window_limit, client_limit}
+use Rattle.mcv_words.specs.Ranges.{session_limit, timeout_limit, window_limit, client_limit, hub_limit}
 use Rattle.mcv_words.specs.declared.options.CheckOptions.{CheckOptions}
 use Rattle.mcv_words.specs.declared.options.ClientTimeout.{ClientTimeout}
 use Rattle.mcv_words.specs.declared.options.MaxClients.{MaxClients}
@@ -89,9 +89,9 @@ spool_rule = record (option_rule (codes "spool")) { required = true }
 abbrev pub sessions_rule : Rule
 sessions_rule = number_rule (codes "sessions") 1 session_limit
 
--- `--proxies N`: a number from 1 to 64, and 1 where it isn't given
-abbrev pub proxies_rule : Rule
-proxies_rule = record (number_rule (codes "proxies") 1 proxy_limit) { defaults = codes "1" ∷ [] }
+-- `--hubs N`: a number from 1 to 8, and 1 where it isn't given
+abbrev pub hubs_rule : Rule
+hubs_rule = record (number_rule (codes "hubs") 1 hub_limit) { defaults = codes "1" ∷ [] }
 
 -- `--server-timeout MS`, `--client-timeout MS`: a number of milliseconds from 1 to 3600000
 abbrev pub server_timeout_rule : Rule
@@ -104,9 +104,13 @@ client_timeout_rule = number_rule (codes "client-timeout") 1 timeout_limit
 abbrev pub max_clients_rule : Rule
 max_clients_rule = number_rule (codes "max-clients") 1 client_limit
 
+-- `--admin ADDRESS`
+abbrev pub admin_rule : Rule
+admin_rule = option_rule (codes "admin")
+
 -- the options of `run`, in the order of its help
 abbrev pub run_rules : List Rule
-run_rules = listen_rule ∷ spool_rule ∷ sessions_rule ∷ proxies_rule ∷ window_rule ∷ server_timeout_rule ∷ client_timeout_rule ∷ max_clients_rule ∷ []
+run_rules = listen_rule ∷ spool_rule ∷ sessions_rule ∷ hubs_rule ∷ window_rule ∷ server_timeout_rule ∷ client_timeout_rule ∷ max_clients_rule ∷ admin_rule ∷ []
 
 -- `run --listen ADDRESS --spool FILE` with the options whose rules stand above
 abbrev pub run_app : App
@@ -184,25 +188,28 @@ IsNumberIfGiven option rows (Some n) = IsNumberOf option rows n
 -- the numbers that the options of `run` have, none where one wasn't given
 pub record HasSettings (rows : List Row) (s : Settings) : Type 0 where
   pub sessions : IsNumberIfGiven (codes "sessions") rows (option_map (λ (n : Sessions). n.count) s.sessions)
-  pub proxies : IsNumberOf (codes "proxies") rows s.proxies.count
+  pub hubs : IsNumberOf (codes "hubs") rows s.hubs.count
   pub window : IsNumberOf (codes "window") rows s.window.seconds
   pub server_timeout : IsNumberIfGiven (codes "server-timeout") rows (option_map (λ (t : ServerTimeout). t.millis) s.server_timeout)
   pub client_timeout : IsNumberIfGiven (codes "client-timeout") rows (option_map (λ (t : ClientTimeout). t.millis) s.client_timeout)
   pub max_clients : IsNumberIfGiven (codes "max-clients") rows (option_map (λ (n : MaxClients). n.count) s.max_clients)
 
--- what `run` is asked for: the address, the name of the spool's file, and the numbers, each of which is in its range by its type
+-- what `run` is asked for: the address, the name of the spool's file, the operator's address or none, and the numbers, each of which is in its
+-- range by its type
 pub record RunOrder : Type 0 where
   pub listen : Text
   pub spool : Text
+  pub admin : Option Text
   pub settings : Settings
 
 abbrev pub order_of : RunOptions → RunOrder
-order_of o = record { listen = o.listen.now; spool = o.spool.now; settings = o.settings }
+order_of o = record { listen = o.listen.now; spool = o.spool.now; admin = option_map (λ address. address.now) o.admin; settings = o.settings }
 
 -- the values of the options of `run`
 pub record HasRunValues (rows : List Row) (order : RunOrder) : Type 0 where
   pub listen : first_of (codes "listen") rows ≡ Some order.listen
   pub spool : first_of (codes "spool") rows ≡ Some order.spool
+  pub admin : order.admin ≡ first_of (codes "admin") rows
   pub settings : HasSettings rows order.settings
 
 -- clap takes the words, and they name the command `run` with these values
@@ -283,7 +290,7 @@ pub record CanRun (rows : List Row) : Type 0 where
   pub listen : IsSome (first_of (codes "listen") rows)
   pub spool : IsSome (first_of (codes "spool") rows)
   pub sessions : MayBeGivenIn (codes "sessions") 1 session_limit rows
-  pub proxies : IsGivenIn (codes "proxies") 1 proxy_limit rows
+  pub hubs : IsGivenIn (codes "hubs") 1 hub_limit rows
   pub window : IsGivenIn (codes "window") 0 window_limit rows
   pub server_timeout : MayBeGivenIn (codes "server-timeout") 1 timeout_limit rows
   pub client_timeout : MayBeGivenIn (codes "client-timeout") 1 timeout_limit rows

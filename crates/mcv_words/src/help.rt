@@ -260,8 +260,8 @@ pub(crate) const SPOOL: &str = "The file that keeps deletes which wait for a ser
 pub(crate) const SESSIONS: &str = "After how many sessions the program ends,
 from 1 to 1000000000; without it, after none";
 
-pub(crate) const PROXIES: &str = "How many proxies run side by side,
-from 1 to 64";
+pub(crate) const HUBS: &str = "How many hubs run side by side,
+from 1 to 8";
 
 pub(crate) const SERVER_TIMEOUT: &str = "How many milliseconds a server may take,
 from 1 to 3600000; without it, any time";
@@ -271,6 +271,10 @@ take nothing, from 1 to 3600000; without it, any";
 
 pub(crate) const MAX_CLIENTS: &str = "How many clients are served at once,
 from 1 to 1000000; without it, any number";
+
+pub(crate) const ADMIN: &str = "Where an operator asks over HTTP: GET /metrics,
+GET /health, POST /drain; give an address that no
+other can reach";
 
 pub(crate) const RUN_FORM: &str =
     "Standard input has the configuration as JSON; `mcv legs --help` says which route
@@ -293,10 +297,10 @@ file that weren't done. A session is a client's connection, from when it is
 taken to when it is closed. `calls` is how many calls the sessions began: one
 for each key of a request.
 
-Each proxy has its own connections to every server; clients are dealt out to
-them one after another. Have as many as the machine has processors. With more
-than one, requests of different clients reach a server in no order, as with
-mcrouter's `--num-proxies`.
+Each hub has its own connections to every server, and the keys whose hash names
+it: requests for one key reach each server in one order. Have as many as the
+machine has processors. A get of keys that have several hubs asks these one
+after another.
 
 A server that doesn't reply in its time has failed: the connection is closed,
 what it was asked isn't sent again at once (a delete goes to the spool), and

@@ -7,7 +7,7 @@ mod options;
 mod words;
 
 pub use options::{
-    CheckOptions, ClientTimeout, InRange, MaxClients, Proxies, RunOptions, ServerTimeout, Sessions,
+    CheckOptions, ClientTimeout, Hubs, InRange, MaxClients, RunOptions, ServerTimeout, Sessions,
     Settings, SpoolOptions, Window,
 };
 pub use words::{Job, LineFault, read_words};

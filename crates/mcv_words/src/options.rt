@@ -1,7 +1,7 @@
 //! What `check` and `run` are asked for. Each number has a type of its own, which keeps it in its range.
 
 ghost use Rattle.std.specs.Prelude.{◌≡◌, ◌↔◌, ◌≤◌, ℕ, IfSome, IsSome};
-ghost use Rattle.mcv_words.specs.Ranges.{client_limit, proxy_limit, session_limit, timeout_limit, window_limit};
+ghost use Rattle.mcv_words.specs.Ranges.{client_limit, session_limit, timeout_limit, window_limit, hub_limit};
 
 /// A number that an option takes.
 pub trait InRange: Drop + Sized {
@@ -39,25 +39,25 @@ impl InRange for Sessions {
     }
 }
 
-/// How many proxies run side by side, from 1 to 64.
+/// How many hubs run side by side, from 1 to 8.
 #[derive(Clone, Copy, Debug, PartialEq, Eq)]
-pub struct Proxies {
+pub struct Hubs {
     pub count: u64,
-    pub ghost in_range: { (1 ≤ count) × (count ≤ proxy_limit) },
+    pub ghost in_range: { (1 ≤ count) × (count ≤ hub_limit) },
 }
 
-impl InRange for Proxies {
+impl InRange for Hubs {
     ghost least = { 1 };
 
-    ghost most = { proxy_limit };
+    ghost most = { hub_limit };
 
-    ghost value = { λ proxies. proxies.count };
+    ghost value = { λ hubs. hubs.count };
 
-    fn new(number: u64) -> Option<Proxies> {
-        if number < 1 || number > 64 {
+    fn new(number: u64) -> Option<Hubs> {
+        if number < 1 || number > 8 {
             return None;
         }
-        Some(Proxies { count: number })
+        Some(Hubs { count: number })
     }
 }
 
@@ -166,7 +166,7 @@ pub struct CheckOptions {
 pub struct Settings {
     /// None where the run doesn't end by itself.
     pub sessions: Option<Sessions>,
-    pub proxies: Proxies,
+    pub hubs: Hubs,
     /// Within what the configuration is judged.
     pub window: Window,
     /// None where a server may take any time.
@@ -184,6 +184,8 @@ pub struct RunOptions<'a> {
     pub listen: &'a str,
     /// The name of the spool's file.
     pub spool: &'a str,
+    /// The address at which an operator may ask; None where none may.
+    pub admin: Option<&'a str>,
     pub settings: Settings,
 }
 

@@ -5,17 +5,17 @@ ghost use Rattle.std.specs.Prelude.{◌≡◌, codes, false, option_map, IfOk, I
 ghost use Rattle.clap.specs.Words.{Text, app_of, first_of, found_of, kind_of, rows_of, rule_of};
 ghost use Rattle.clap.specs.declared.builder.command.Command.TheViews.{out-Command as fields_of};
 ghost use Rattle.mcv_words.specs.Ranges.{window_limit};
-ghost use Rattle.mcv_words.specs.Words.{at_rule, cert_rule, check_app, client_timeout_rule, file_rule, flag_rule, draw_app, legs_app, line_fault_number, listen_rule, max_clients_rule, mcv_app, mend_app, proxies_rule, quiet_rule, run_app, server_timeout_rule, sessions_rule, spool_app, spool_rule, window_rule, CanRun, IsCheckOf, IsDrawOf, IsFaultOfKind, IsGivenIn, IsJobOf, IsLineFault, IsMendOf, IsNumberIfGiven, IsRunOf, IsSpoolOf, MayBeGivenIn};
+ghost use Rattle.mcv_words.specs.Words.{admin_rule, at_rule, cert_rule, check_app, client_timeout_rule, file_rule, flag_rule, draw_app, hubs_rule, legs_app, line_fault_number, listen_rule, max_clients_rule, mcv_app, mend_app, quiet_rule, run_app, server_timeout_rule, sessions_rule, spool_app, spool_rule, window_rule, CanRun, IsCheckOf, IsDrawOf, IsFaultOfKind, IsGivenIn, IsJobOf, IsLineFault, IsMendOf, IsNumberIfGiven, IsRunOf, IsSpoolOf, MayBeGivenIn};
 ghost use Rattle.mcv_words.specs.declared.words.LineFault.TheVariants.{Memory as out_of_memory};
 
 use crate::help::{
-    ABOUT, ALL, AT, CERT, CHECK_ABOUT, CHECK_FORM, CLIENT_TIMEOUT, DOT, DRAW_ABOUT, DRAW_FORM,
-    EXAMPLE, EXPLAIN, FILE, JSON, LEGS_ABOUT, LEGS_FORM, LISTEN, MAX_CLIENTS, MEND_ABOUT,
-    MEND_FORM, PATCH, PROXIES, QUIET, RUN_ABOUT, RUN_FORM, SERVER_TIMEOUT, SESSIONS, SPOOL,
+    ABOUT, ADMIN, ALL, AT, CERT, CHECK_ABOUT, CHECK_FORM, CLIENT_TIMEOUT, DOT, DRAW_ABOUT,
+    DRAW_FORM, EXAMPLE, EXPLAIN, FILE, HUBS, JSON, LEGS_ABOUT, LEGS_FORM, LISTEN, MAX_CLIENTS,
+    MEND_ABOUT, MEND_FORM, PATCH, QUIET, RUN_ABOUT, RUN_FORM, SERVER_TIMEOUT, SESSIONS, SPOOL,
     SPOOL_ABOUT, SPOOL_FORM, WINDOW,
 };
 use crate::options::{
-    CheckOptions, ClientTimeout, InRange, MaxClients, Proxies, RunOptions, ServerTimeout, Sessions,
+    CheckOptions, ClientTimeout, Hubs, InRange, MaxClients, RunOptions, ServerTimeout, Sessions,
     Settings, SpoolOptions, Window,
 };
 use clap::builder::ValueParser;
@@ -224,16 +224,16 @@ fn sessions_option<'a>(alloc: Global) -> Arg<'a>
         .help(SESSIONS)
 }
 
-fn proxies_option<'a>(alloc: Global) -> Arg<'a>
-    ensures rule { rule_of result ≡ proxies_rule }
+fn hubs_option<'a>(alloc: Global) -> Arg<'a>
+    ensures rule { rule_of result ≡ hubs_rule }
     ensures local { result.global ≡ false }
 {
-    Arg::new(alloc, "proxies")
-        .long("proxies")
+    Arg::new(alloc, "hubs")
+        .long("hubs")
         .value_name("N")
-        .value_parser(ValueParser::unsigned(1, 64))
+        .value_parser(ValueParser::unsigned(1, 8))
         .default_value("1")
-        .help(PROXIES)
+        .help(HUBS)
 }
 
 fn server_timeout_option<'a>(alloc: Global) -> Arg<'a>
@@ -269,6 +269,16 @@ fn max_clients_option<'a>(alloc: Global) -> Arg<'a>
         .help(MAX_CLIENTS)
 }
 
+fn admin_option<'a>(alloc: Global) -> Arg<'a>
+    ensures rule { rule_of result ≡ admin_rule }
+    ensures local { result.global ≡ false }
+{
+    Arg::new(alloc, "admin")
+        .long("admin")
+        .value_name("ADDRESS")
+        .help(ADMIN)
+}
+
 fn run_command<'a>(alloc: Global) -> Result<Command<'a>, AllocError>
     ensures app { IfOk result (λ c. app_of c ≡ run_app) }
     ensures local { IfOk result (λ c. (fields_of c).has_globals ≡ false) }
@@ -280,11 +290,12 @@ fn run_command<'a>(alloc: Global) -> Result<Command<'a>, AllocError>
         .arg(listen_option(alloc))?
         .arg(spool_option(alloc))?
         .arg(sessions_option(alloc))?
-        .arg(proxies_option(alloc))?
+        .arg(hubs_option(alloc))?
         .arg(window_option(alloc))?
         .arg(server_timeout_option(alloc))?
         .arg(client_timeout_option(alloc))?
-        .arg(max_clients_option(alloc))
+        .arg(max_clients_option(alloc))?
+        .arg(admin_option(alloc))
 }
 
 fn file_argument<'a>(alloc: Global) -> Arg<'a>
@@ -414,7 +425,7 @@ fn run_job<'a>(found: &ArgMatches<'a>) -> Result<Job<'a>, LineFault>
         return Err(LineFault::BadLine);
     };
     let sessions = number_of::<Sessions>(found, "sessions")?;
-    let Some(proxies) = number_of::<Proxies>(found, "proxies")? else {
+    let Some(hubs) = number_of::<Hubs>(found, "hubs")? else {
         return Err(LineFault::BadLine);
     };
     let Some(window) = number_of::<Window>(found, "window")? else {
@@ -423,12 +434,14 @@ fn run_job<'a>(found: &ArgMatches<'a>) -> Result<Job<'a>, LineFault>
     let server_timeout = number_of::<ServerTimeout>(found, "server-timeout")?;
     let client_timeout = number_of::<ClientTimeout>(found, "client-timeout")?;
     let max_clients = number_of::<MaxClients>(found, "max-clients")?;
+    let admin = found.get_str("admin");
     Ok(Job::Run(RunOptions {
         listen,
         spool,
+        admin,
         settings: Settings {
             sessions,
-            proxies,
+            hubs,
             window,
             server_timeout,
             client_timeout,

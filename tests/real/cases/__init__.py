@@ -1,7 +1,7 @@
 """The cases, in the order in which they run."""
-from cases import clients, crowds, mutants, requests, servers, spools, starts, stops
+from cases import clients, crowds, drains, metrics, mutants, requests, servers, spools, starts, stops
 
-MODULES = [starts, requests, clients, servers, spools, crowds, mutants, stops]
+MODULES = [starts, requests, clients, servers, spools, crowds, drains, metrics, mutants, stops]
 
 
 def named(names):

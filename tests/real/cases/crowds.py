@@ -114,6 +114,38 @@ def forty_thousand_connections_one_after_the_other(machine):
         raise Failed("(megabytes, threads, maps) are %s, and were %s after 1,000" % (after, before))
 
 
+def getting(mcv, count, wanted, faults, most):
+    """So many gets of the large value, one after the other; keeps the most megabytes that the program had meanwhile."""
+    try:
+        with mcv.client() as client:
+            for _ in range(count):
+                client.send(b"get large\r\n")
+                if client.exactly(len(wanted)) != wanted:
+                    raise Failed("another value")
+                most.append(max(most.pop(), used(mcv.process)[0]))
+    except (Failed, OSError, IndexError) as fault:
+        faults.append(repr(fault))
+
+
+@case(240)
+def large_values_are_let_go_of(machine):
+    server = machine.servers(1)[0]
+    mcv = machine.mcv(one_pool([server]))
+    value = b"x" * 100000
+    with mcv.client() as client:
+        client.ask(stored(b"large", value), b"STORED\r\n")
+    faults, most = [], [[0] for _ in range(8)]
+    threads = [threading.Thread(target=getting, args=(mcv, 2500, value_answer(b"large", value), faults, one)) for one in most]
+    for thread in threads:
+        thread.start()
+    for thread in threads:
+        thread.join()
+    expect(faults, [], "faults of clients that get")
+    # 2 GB of values went through the history of its chapters, which lets go of them from 64 MiB on.
+    if max(one[0] for one in most) >= 400:
+        raise Failed("the program had %d megabytes" % max(one[0] for one in most))
+
+
 @case()
 def a_client_past_its_time_is_closed(machine):
     mcv = machine.mcv(one_pool(machine.servers(1)), client_timeout=1000)
@@ -220,23 +252,26 @@ def deletes_without_reply_of_clients_that_go_are_performed(machine):
 
 
 @case()
-def clients_are_dealt_out_to_the_proxies(machine):
+def each_key_has_one_hub(machine):
+    """By FNV-1a `a` has hub 0 of two and `b` hub 1: each hub has a connection of its own, which all clients share."""
     fake = machine.fake(Fake())
-    mcv = machine.mcv(one_pool([fake.text]), proxies=3)
+    mcv = machine.mcv(one_pool([fake.text]), hubs=2)
     with contextlib.ExitStack() as kept:
-        for n in range(7):
-            kept.enter_context(mcv.client()).ask(b"get a\r\n", b"END\r\n")
-            # Sessions of one proxy share a connection while they ask one after another.
-            expect(len(fake.connections), min(n + 1, 3), "connections to the server")
+        for n in range(3):
+            client = kept.enter_context(mcv.client())
+            client.ask(b"get a\r\n", b"END\r\n")
+            expect(len(fake.connections), 2 if n else 1, "connections to the server")
+            client.ask(b"get b\r\n", b"END\r\n")
+            expect(len(fake.connections), 2, "connections to the server")
 
 
 @case(120)
-def a_server_of_four_proxies_is_killed_and_started_again(machine):
-    """Two clients of each proxy delete keys of a server that goes away; others work with servers that stay."""
+def a_server_of_four_hubs_is_killed_and_started_again(machine):
+    """Eight clients delete keys of a server that goes away; others work with servers that stay."""
     (text, process), stay = machine.memcached(), machine.servers(2)
     spool = machine.path("mcv.spool")
     route = {"type": "PrefixSelectorRoute", "policies": {"away": "PoolRoute|A"}, "wildcard": "PoolRoute|B"}
-    mcv = machine.mcv({"pools": {"A": {"servers": [text]}, "B": {"servers": stay}}, "route": route}, proxies=4)
+    mcv = machine.mcv({"pools": {"A": {"servers": [text]}, "B": {"servers": stay}}, "route": route}, hubs=4)
     own = [[b"away.%d.%d" % (number, n) for n in range(20)] for number in range(8)]
     every = [key for keys in own for key in keys]
     with workers(mcv, 8), contextlib.ExitStack() as kept:

@@ -351,6 +351,8 @@ def the_spool_refuses_and_takes_it_later(machine):
         wait_for(lambda: [rest for _, rest in pending(spool)] == [b"a", b"b", b"c"], "the delete that was refused is written")
         client.ask(b"delete d\r\n", b"NOT_FOUND\r\n")
         expect([rest for _, rest in pending(spool)], [b"a", b"b", b"c", b"d"])
+    for line in (b"mcv: the spool refuses records: the disk failed", b"mcv: the spool takes records again"):
+        wait_for(lambda: line in mcv.error_text().splitlines(), line.decode())
 
 
 def has_ipv6():

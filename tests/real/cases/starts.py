@@ -48,14 +48,14 @@ def two_sessions_and_the_number_of_their_calls(machine):
 
 
 @case()
-def sessions_of_two_proxies_and_the_number_of_their_calls(machine):
-    mcv = machine.mcv(one_pool(machine.servers(2)), sessions=4, proxies=2)
+def sessions_over_two_hubs_and_the_number_of_their_calls(machine):
+    mcv = machine.mcv(one_pool(machine.servers(2)), sessions=4, hubs=2)
     with contextlib.ExitStack() as kept:
         clients = [kept.enter_context(mcv.client()) for _ in range(4)]
         for n, client in enumerate(clients):
             client.ask(stored(b"k%d" % n, b"%d" % n), b"STORED\r\n")
         for n, client in enumerate(clients):
-            # What a client of the other proxy stored.
+            # What another client stored.
             other = b"k%d" % ((n + 1) % 4)
             client.ask(b"get " + other + b"\r\n", value_answer(other, other[1:]))
         for n, client in enumerate(clients):
@@ -104,7 +104,7 @@ def a_bad_command_line(machine):
     spool = ["--spool", machine.path("mcv.spool")]
     listen = ["--listen", "127.0.0.1:0"]
     for words in (run, run + spool, run + listen, run + listen + spool + ["--sessions", "0"], run + listen + spool + ["--sessions", "1000000001"],
-                  run + listen + spool + ["--sessions", "x"], run + listen + spool + ["--proxies", "0"], run + listen + spool + ["--proxies", "65"],
+                  run + listen + spool + ["--sessions", "x"], run + listen + spool + ["--hubs", "0"], run + listen + spool + ["--hubs", "9"],
                   run + listen + spool + ["--window", "-1"], run + listen + spool + ["--window", "4294967296"],
                   run + listen + spool + ["--server-timeout", "0"], run + listen + spool + ["--server-timeout", "3600001"],
                   run + listen + spool + ["--max-clients", "0"], run + listen + spool + ["--max-clients", "1000001"],

@@ -58,6 +58,11 @@ fn record(queues: &Queues<u64>, number: u64) -> Option<u64> {
     queues.get(LegId(number))?.record
 }
 
+/// How many legs may be in flight: one, where the script doesn't say it.
+fn limit_of(more: u64) -> usize {
+    if more == 0 { 1 } else { more as usize }
+}
+
 /// What a call on a leg or a server of this number gives.
 pub(super) fn answer(
     rt: &(impl AllocGlobal + Abort),
@@ -68,8 +73,8 @@ pub(super) fn answer(
 ) -> String {
     match word {
         "add" => shown(rt, add(rt, queues, server(number), more)),
-        "next" => shown(rt, queues.next(server(number))),
-        "replay" => shown(rt, queues.replay(server(number))),
+        "next" => shown(rt, queues.next(server(number), limit_of(more))),
+        "replay" => shown(rt, queues.replay(server(number), limit_of(more))),
         "hold" => shown(rt, hold(queues, number)),
         "refuse" => shown(rt, refuse(queues, number)),
         "store" => shown(rt, store(queues, number, more)),
@@ -100,7 +105,7 @@ add 1 8 = ()
 add 0 1 = ()
 next 1 = Ok(LegId(3))
 state 3 = Some(Sent)
-sent 1 = Some(LegId(3))
+sent 1 = 1
 next 1 = Err(Busy)
 next 0 = Ok(LegId(1))
 perform 3 = Some(3)
@@ -115,6 +120,30 @@ next 2 = Err(NothingWaiting)";
 #[test]
 fn legs_are_handed_out_in_the_order_of_their_numbers(rt: HostRuntime) {
     play(&rt, ORDER);
+}
+
+const TWO_IN_FLIGHT: &str = "\
+add 1 5 = ()
+add 1 3 = ()
+add 1 8 = ()
+store 8 30 = ()
+next 1 2 = Ok(LegId(3))
+replay 1 2 = Ok(LegId(8))
+sent 1 = 2
+next 1 2 = Err(Busy)
+next 1 3 = Ok(LegId(5))
+next 1 3 = Err(Busy)
+sent 0 = 0
+perform 5 = Some(5)
+sent 1 = 2
+perform 3 = Some(3)
+fail 8 = ()
+sent 1 = 0
+next 1 2 = Err(NothingWaiting)";
+
+#[test]
+fn several_legs_are_in_flight_up_to_the_limit(rt: HostRuntime) {
+    play(&rt, TWO_IN_FLIGHT);
 }
 
 const HELD: &str = "\

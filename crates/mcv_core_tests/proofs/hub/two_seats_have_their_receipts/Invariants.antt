@@ -11,4 +11,4 @@ abbrev pub ghosts-two_seats-T-Ledger : goal.ghosts-two_seats-T-Ledger
 ghosts-two_seats-T-Ledger g a = record { name = a.taken.name; parts = a.taken.parts }
 
 abbrev pub ghosts-two_seats-B-HubLedger : goal.ghosts-two_seats-B-HubLedger
-ghosts-two_seats-B-HubLedger g a = record { opened = opened_view (arc_value a.accepted) [] }
+ghosts-two_seats-B-HubLedger g a = record { number = 0; opened = opened_view (arc_value a.accepted) [] }

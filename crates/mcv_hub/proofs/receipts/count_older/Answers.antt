@@ -8,16 +8,16 @@ pub returns-in_err-check_receipt-clause-err : goal.returns-in_err-check_receipt-
 returns-in_err-check_receipt-clause-err c =
     let p = err_from_is_err_and c.from_residual.result c.from_residual.ensures.1 in
     rw (p.1, p.2)
-    (refused_at c.args.chapter c.args.history.now c.args.receipts.now c.loop-index.index c.loop-index.older c.loop-index.seen.items _ c.in_err-check_receipt.field-0.0 c.loop-index.invariant c.loop-index-test.true
+    (refused_at c.args.hub c.args.chapter c.args.history.now c.args.receipts.now c.loop-index.index c.loop-index.older c.loop-index.seen.items _ c.in_err-check_receipt.field-0.0 c.loop-index.invariant c.loop-index-test.true
     c.in_err-check_receipt.ensures.stranger c.in_err-check_receipt.ensures.twice)
 
 pub loop-index-preserved : goal.loop-index-preserved
 loop-index-preserved c = elim c.if-branch.branch [
   | then-branch w ↦ rw (w.older-is, c.in_ok-check_receipt.ensures.skipped w.if-branch.true)
-      (older_checked c.args.chapter c.args.history.now c.args.receipts.now c.loop-index.index c.loop-index.older c.loop-index.seen.items _ c.loop-index.invariant c.loop-index-test.true
+      (older_checked c.args.hub c.args.chapter c.args.history.now c.args.receipts.now c.loop-index.index c.loop-index.older c.loop-index.seen.items _ c.loop-index.invariant c.loop-index-test.true
       (sym c.in_ok-check_receipt.ensures.older ∙ w.if-branch.true))
   | else-branch w ↦ rw w.older-is
-      (good_checked c.args.chapter c.args.history.now c.args.receipts.now c.loop-index.index c.loop-index.older c.loop-index.seen.items c.check_receipt.new.seen.items _ c.loop-index.invariant c.loop-index-test.true
+      (good_checked c.args.hub c.args.chapter c.args.history.now c.args.receipts.now c.loop-index.index c.loop-index.older c.loop-index.seen.items c.check_receipt.new.seen.items _ c.loop-index.invariant c.loop-index-test.true
       (sym c.in_ok-check_receipt.ensures.older ∙ w.if-branch.false) (c.in_ok-check_receipt.ensures.good w.if-branch.false) (c.in_ok-check_receipt.ensures.marks w.if-branch.false).0
       (c.in_ok-check_receipt.ensures.marks w.if-branch.false).1 c.check_receipt.ensures.len)
 ]
@@ -25,7 +25,7 @@ loop-index-preserved c = elim c.if-branch.branch [
 pub returns-clause-passed : goal.returns-clause-passed
 returns-clause-passed c =
     record {
-      good = all_good c.args.chapter c.args.history.now c.args.receipts.now c.loop-index.index c.loop-index.older c.loop-index.seen.items c.loop-index.invariant c.loop-index-test.false;
-      apart = all_apart c.args.chapter c.args.history.now c.args.receipts.now c.loop-index.index c.loop-index.older c.loop-index.seen.items c.loop-index.invariant c.loop-index-test.false;
-      older_is = all_older c.args.chapter c.args.history.now c.args.receipts.now c.loop-index.index c.loop-index.older c.loop-index.seen.items c.loop-index.invariant c.loop-index-test.false;
+      good = all_good c.args.hub c.args.chapter c.args.history.now c.args.receipts.now c.loop-index.index c.loop-index.older c.loop-index.seen.items c.loop-index.invariant c.loop-index-test.false;
+      apart = all_apart c.args.hub c.args.chapter c.args.history.now c.args.receipts.now c.loop-index.index c.loop-index.older c.loop-index.seen.items c.loop-index.invariant c.loop-index-test.false;
+      older_is = all_older c.args.hub c.args.chapter c.args.history.now c.args.receipts.now c.loop-index.index c.loop-index.older c.loop-index.seen.items c.loop-index.invariant c.loop-index-test.false;
     }

@@ -11,4 +11,4 @@ abbrev pub ghosts-pass_of-T-Ledger : goal.ghosts-pass_of-T-Ledger
 ghosts-pass_of-T-Ledger g a = record { name = a.taken.name; parts = a.taken.parts }
 
 abbrev pub ghosts-pass_of-B-HubLedger : goal.ghosts-pass_of-B-HubLedger
-ghosts-pass_of-B-HubLedger g a = record { opened = opened_view (arc_value a.accepted) [] }
+ghosts-pass_of-B-HubLedger g a = record { number = 0; opened = opened_view (arc_value a.accepted) [] }

@@ -1,24 +1,21 @@
-use Rattle.std.proofs.Common.{Err, subst}
+use Rattle.std.proofs.Common.{Err, inl, inr, refl, subst}
 use Rattle.std.specs.Prelude.{IfErr, IfOk}
 use Rattle.std.specs.Arc.{arc_value}
 use Rattle.mcv_base.specs.declared.request.Request.{Request}
-use Rattle.mcv_core.specs.Events.{IsBegun}
-use Rattle.mcv_core.specs.View.{core_view}
 use Rattle.mcv_core.specs.declared.fault.CoreFault.TheVariants.{Memory}
-use Rattle.mcv_hub.specs.Events.{IsHubEvent}
-use Rattle.mcv_pools.specs.Hash.{fnv_index}
-use Rattle.mcv_proxy.proofs.Books.{without_memory, was_refused}
+use Rattle.mcv_hub.specs.Gate.{IsHubBegun}
+use Rattle.mcv_proxy.proofs.Books.{was_refused}
 use Rattle.mcv_proxy.specs.Desk.{WasBegun, WasRefused}
 use Rattle.mcv_text.specs.Request.{request_value}
 use Rattle.mcv_proxy.proofs.events.begin_shared.Goals as goal
 
 pub returns-in-Ok-clause-event : goal.returns-in-Ok-clause-event
 returns-in-Ok-clause-event g c =
-    let P : Request → Type 0 = λ r. IsHubEvent (IsBegun (core_view c.args.guard.now.core) fnv_index r c.args.key c.begin.result) c.args.guard.now c.begin.new.guard in
-    subst P c.in-Ok.ensures c.begin.ensures.event
+    let P : Request → Type 0 = λ r. IsHubBegun c.args.guard.now r c.args.key c.begin.result c.begin.new.guard in
+    inl (subst P c.in-Ok.ensures c.begin.ensures.event)
 
 pub returns-in-Err-clause-event : goal.returns-in-Err-clause-event
-returns-in-Err-clause-event g c = without_memory c.args.guard.now fnv_index (arc_value c.args.request.now) c.args.key
+returns-in-Err-clause-event g c = inr (refl, refl)
 
 pub returns-in-Ok-clause-refused : goal.returns-in-Ok-clause-refused
 returns-in-Ok-clause-refused g c =
@@ -26,8 +23,7 @@ returns-in-Ok-clause-refused g c =
     subst P c.in-Ok.ensures c.begin.ensures.refused
 
 pub returns-in-Err-clause-refused : goal.returns-in-Err-clause-refused
-returns-in-Err-clause-refused g c =
-    was_refused g.B.HubLedger.opened (arc_value c.args.request.now) c.args.key c.args.guard.now c.args.guard.now (Err Memory) c.is_opened.ensures c.deletes_are_kept.ensures (without_memory c.args.guard.now fnv_index (arc_value c.args.request.now) c.args.key)
+returns-in-Err-clause-refused g c = was_refused g.B.HubLedger.opened (arc_value c.args.request.now) c.args.key c.args.guard.now (Err Memory) c.is_opened.ensures c.deletes_are_kept.ensures (inr tt)
 
 pub returns-in-Ok-clause-began : goal.returns-in-Ok-clause-began
 returns-in-Ok-clause-began g c =

@@ -22,9 +22,10 @@ returns-clause-job c =
     record {
       listen = sym (c.in-Some.ensures ∙ first_value-rows found (codes "listen"));
       spool = sym (c.in-Some-get_str.ensures ∙ first_value-rows found (codes "spool"));
+      admin = c.get_str-admin.ensures ∙ first_value-rows found (codes "admin");
       settings = record {
         sessions = c.in_ok-sessions.ensures.number;
-        proxies = rw c.in-Some-2.is at c.in_ok-proxies.ensures.number;
+        hubs = rw c.in-Some-2.is at c.in_ok-hubs.ensures.number;
         window = rw c.in-Some-3.is at c.in_ok-window.ensures.number;
         server_timeout = c.in_ok-server_timeout.ensures.number;
         client_timeout = c.in_ok-client_timeout.ensures.number;

@@ -1,7 +1,7 @@
 use Rattle.std.proofs.Common.{◌≡◌, ◌∙◌, ◌+◌, ◌-◌, ◌*◌, suc, length, refl, sym, ap, subst, arith, Some}
 use Rattle.std.specs.Arc.{arc_value}
 use Rattle.std.proofs.Math.Path.{fun_ext}
-use Rattle.mcv_queues.specs.Queues.{legs, room, servers}
+use Rattle.mcv_queues.specs.Queues.{in_flight, legs, room, servers}
 use Rattle.mcv_world.specs.World.{put}
 use Rattle.mcv_core.specs.Beginning.{began_by}
 use Rattle.mcv_core.specs.Calls.{calls_at}
@@ -12,6 +12,7 @@ use Rattle.mcv_core.specs.Soundness.{IsSound}
 use Rattle.mcv_core.specs.CallProgress.{fresh}
 use Rattle.mcv_core.specs.View.{core_view, since_of}
 use Rattle.mcv_core.proofs.BegunCalls
+use Rattle.mcv_core.proofs.FlightsStayWithin
 use Rattle.mcv_core.proofs.SpoolNumbers
 use Rattle.mcv_core.proofs.dispatcher.Dispatcher.add.Goals as goal
 
@@ -53,6 +54,7 @@ invariant_of-self c =
           (subst (λ m. IsSound (arc_value d.accepted) (calls_at c.add.new.self) (legs c.launch-launched.new.queues) (since_of d) d.moment.0 (suc d.next_call) m c.begun-self.result.reserved c.begun-self.result.queued
           c.begun-self.result.spooled c.begun-self.result.running (room c.launch-launched.new.queues) (servers c.launch-launched.new.queues)) number sound);
       table = d.table;
+      within = FlightsStayWithin.same_within (in_flight d.queues) (in_flight c.launch-launched.new.queues) d.limit d.within c.launch-launched.ensures.flights;
     }
 
 pub returns-clause-view : goal.returns-clause-view

@@ -1,6 +1,6 @@
 use Rattle.std.proofs.Common.{◌∙◌, refl, sym, ap, subst}
-use Rattle.mcv_queues.specs.Legs.{is_flight, is_in_flight}
-use Rattle.mcv_queues.specs.Queues.{legs}
+use Rattle.mcv_queues.specs.Legs.{is_flight, is_in_flight, is_in_flight_to}
+use Rattle.mcv_queues.specs.Queues.{in_flight, legs}
 use Rattle.mcv_queues.specs.declared.leg.State.TheVariants as states
 use Rattle.mcv_core.specs.CoreView.{HasDone, at_row, held, step_to}
 use Rattle.mcv_core.specs.Facts.{counts_in}
@@ -8,6 +8,7 @@ use Rattle.mcv_core.specs.View.{core_view}
 use Rattle.mcv_core.specs.declared.step.Change.TheVariants as changes
 use Rattle.mcv_core.specs.declared.step.LegState.TheVariants as leg_states
 use Rattle.mcv_core.proofs.Landings.{stated}
+use Rattle.mcv_core.proofs.FlightsStayWithin
 use Rattle.mcv_core.proofs.LegViews
 use Rattle.mcv_core.proofs.dispatcher.Dispatcher.hold.Goals as goal
 
@@ -23,6 +24,7 @@ invariant_of-self c =
     record {
       sound = LegViews.sound_held d c.args.leg.0 l.leg l.at (ap counts_in (sym l.at) ∙ c.requires.counted) l.is c.held.new.self c.held.ensures.legs c.held.ensures.room c.held.ensures.servers;
       table = d.table;
+      within = FlightsStayWithin.landed_within (in_flight d.queues) (in_flight c.held.new.self) d.limit (λ s. is_in_flight_to s (legs d.queues c.args.leg.0)) d.within c.held.ensures.flights;
     }
 
 pub returns : goal.returns

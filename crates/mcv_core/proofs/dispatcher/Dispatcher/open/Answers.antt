@@ -6,6 +6,7 @@ use Rattle.mcv_route.specs.Eras.{breaks_of, since_at}
 use Rattle.mcv_route.specs.Routes.{RoutesValue}
 use Rattle.mcv_core.specs.Calls.{calls_at}
 use Rattle.mcv_core.specs.Opening.{AreOpened, known_numbers, known_records}
+use Rattle.mcv_core.proofs.FlightsStayWithin
 use Rattle.mcv_core.proofs.OpenedCores
 use Rattle.mcv_core.proofs.dispatcher.Dispatcher.open.Goals as goal
 
@@ -24,6 +25,7 @@ invariant_of-result c =
     record {
       sound = OpenedCores.sound r known (known_numbers r.servers c.args.records.now) (calls_at c.new-calls.result) c.new-calls.ensures (legs o.queues) o.count are (option_map (λ m. m.0) c.since-since.result) since fits (room o.queues) (servers o.queues) table;
       table = c.in_ok-marks.ensures.servers ∙ c.len.ensures.value ∙ ap length c.servers.ensures.value ∙ ap (λ (v : RoutesValue). length v.servers) routes;
+      within = FlightsStayWithin.none_within (in_flight o.queues) c.args.limit c.in_ok-opened.ensures.flights;
     }
 
 pub returns-clause-view : goal.returns-clause-view
@@ -36,4 +38,4 @@ returns-clause-view c =
     subst (λ (v : RoutesValue). AreOpened (known_records v.servers c.args.records.now) (known_numbers v.servers c.args.records.now) (legs c.in_ok-opened.opened.queues) c.in_ok-opened.opened.count) deref c.in_ok-opened.ensures.opened in
     let since : option_map (λ m. m.0) c.since-since.result ≡ since_at (breaks_of (arc_value c.args.accepted)) 0 = c.since-since.ensures ∙ ap (λ v. since_at (breaks_of v) 0) routes in
     OpenedCores.view r c.args.records.now (calls_at c.new-calls.result) c.new-calls.ensures (legs o.queues) o.count are (option_map (λ m. m.0) c.since-since.result) since (in_flight o.queues) c.in_ok-opened.ensures.flights
-    (marks c.in_ok-marks.marks) c.in_ok-marks.ensures.marks _ refl
+    c.args.limit (marks c.in_ok-marks.marks) c.in_ok-marks.ensures.marks _ refl

@@ -1,12 +1,13 @@
 use Rattle.std.proofs.Common.{◌≡◌, ◌∙◌, ◌+◌, ◌-◌, refl, sym, ap, subst, false, arith}
-use Rattle.mcv_queues.specs.Legs.{is_flight, is_in_flight}
-use Rattle.mcv_queues.specs.Queues.{legs}
+use Rattle.mcv_queues.specs.Legs.{is_flight, is_in_flight, is_in_flight_to}
+use Rattle.mcv_queues.specs.Queues.{in_flight, legs}
 use Rattle.mcv_queues.specs.declared.leg.State.TheVariants as states
 use Rattle.mcv_core.specs.CoreView.{HasDone, at_row, replayed_in, step_to}
 use Rattle.mcv_core.specs.View.{core_view}
 use Rattle.mcv_core.specs.declared.step.Change.TheVariants as changes
 use Rattle.mcv_core.specs.declared.step.LegState.TheVariants as leg_states
 use Rattle.mcv_core.proofs.Landings.{stated}
+use Rattle.mcv_core.proofs.FlightsStayWithin
 use Rattle.mcv_core.proofs.LegViews
 use Rattle.mcv_core.proofs.dispatcher.Dispatcher.perform.Goals as goal
 
@@ -31,6 +32,7 @@ invariant_of-self c =
       sound = subst (λ v. LegViews.IsSoundBy d c.gone.new.self v) (sym c.performed-self.ensures)
           (LegViews.sound_gone d c.args.leg.0 l.leg l.at l.is c.gone.new.self c.gone.ensures.legs c.gone.ensures.room c.gone.ensures.servers (d.counts.spooled - 1) (omega (arith, some)));
       table = d.table;
+      within = FlightsStayWithin.landed_within (in_flight d.queues) (in_flight c.gone.new.self) d.limit (λ s. is_in_flight_to s (legs d.queues c.args.leg.0)) d.within c.gone.ensures.flights;
     }
 
 pub returns : goal.returns

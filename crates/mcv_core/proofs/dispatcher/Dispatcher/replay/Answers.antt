@@ -1,6 +1,8 @@
 use Rattle.std.proofs.Common.{None, Some, refl, ap}
+use Rattle.mcv_queues.specs.declared.leg.State.TheVariants as states
 use Rattle.mcv_core.specs.Events.{IsFirstSpooled}
 use Rattle.mcv_core.specs.View.{core_view}
+use Rattle.mcv_core.proofs.FlightsStayWithin
 use Rattle.mcv_core.proofs.LegViews
 use Rattle.mcv_core.proofs.Sendings
 use Rattle.mcv_core.proofs.dispatcher.Dispatcher.replay.Goals as goal
@@ -8,7 +10,11 @@ use Rattle.mcv_core.proofs.dispatcher.Dispatcher.replay.Goals as goal
 pub invariant_of-self : goal.invariant_of-self
 invariant_of-self c =
     let d = c.args.self.now in
-    record { sound = Sendings.replay_sound d c.args.server.0 c.replay.result c.replay.new.self c.replay.ensures.first c.replay.ensures.legs c.replay.ensures.err c.replay.ensures.room c.replay.ensures.servers; table = d.table }
+    record {
+      sound = Sendings.replay_sound d c.args.server.0 c.replay.result c.replay.new.self c.replay.ensures.first c.replay.ensures.legs c.replay.ensures.err c.replay.ensures.room c.replay.ensures.servers;
+      table = d.table;
+      within = FlightsStayWithin.sending_within d.queues c.replay.new.self d.limit c.args.server.0 c.replay.result d.within c.replay.ensures.free c.replay.ensures.flights c.replay.ensures.err;
+    }
 
 pub returns-in-Ok : goal.returns-in-Ok
 returns-in-Ok c =
@@ -19,10 +25,10 @@ returns-in-Ok c =
       move = None;
       event = record {
         free = c.in-Ok.ensures.free;
-        first = Sendings.least_spooled d c.args.server.0 c.in-Ok.ensures.free (Some n) c.in-Ok.ensures.first;
-        view = Sendings.replayed_view d c.args.server.0 n c.replay.new.self c.in-Ok.ensures.flights h c.in-Ok.ensures.legs;
+        first = Sendings.least_spooled d c.args.server.0 (Some n) c.in-Ok.ensures.first;
+        view = Sendings.sent_view d c.args.server.0 n c.replay.new.self c.in-Ok.ensures.flights states.InSpool states.InReplay h c.in-Ok.ensures.legs;
         none = refl;
-        does = Sendings.replayed_does d c.args.server.0 n c.replay.new.self c.in-Ok.ensures.flights h c.in-Ok.ensures.legs
+        does = Sendings.sent_does d c.args.server.0 n c.replay.new.self c.in-Ok.ensures.flights states.InSpool states.InReplay h refl c.in-Ok.ensures.legs
             (LegViews.sound_replayed d n h.leg h.at h.is c.replay.new.self c.in-Ok.ensures.legs c.in-Ok.ensures.room c.in-Ok.ensures.servers).core;
       };
     }
@@ -34,7 +40,7 @@ returns-in-Err c =
       move = None;
       event = record {
         cause = Sendings.unsent (core_view d) c.args.server.0 IsFirstSpooled c.in-Err.fault c.refused.result c.refused.ensures c.in-Err.ensures.busy
-            (λ e. let both = c.in-Err.ensures.nothing e in (both.0, Sendings.least_spooled d c.args.server.0 both.0 None both.1));
+            (λ e. let both = c.in-Err.ensures.nothing e in (both.0, Sendings.least_spooled d c.args.server.0 None both.1));
         none = refl;
         same = ap (LegViews.view_with d) c.in-Err.ensures.err;
       };

@@ -1,11 +1,13 @@
 use Rattle.std.proofs.Common.{◌∙◌, sym, ap, subst}
 use Rattle.std.specs.Arc.{arc_value}
+use Rattle.mcv_queues.specs.Legs.{is_in_flight_to}
 use Rattle.mcv_queues.specs.Queues.{in_flight, legs, room, servers}
 use Rattle.mcv_core.specs.Calls.{calls_at}
 use Rattle.mcv_core.specs.Facts.{records_in}
 use Rattle.mcv_core.specs.Rows.{rows_of}
 use Rattle.mcv_core.specs.Soundness.{IsSound}
 use Rattle.mcv_core.specs.View.{core_view, since_of}
+use Rattle.mcv_core.proofs.FlightsStayWithin
 use Rattle.mcv_core.proofs.SettledLegs
 use Rattle.mcv_core.proofs.dispatcher.Dispatcher.settle.Goals as goal
 
@@ -65,6 +67,8 @@ invariant_of-self c =
           c.settled-self.result.running (room c.hear-step.new.queues) (servers c.hear-step.new.queues)) (sym c.number_after-self.ensures)
           (SettledLegs.sound_then d n c.args.to can c.leave.new.queues c.leave.ensures.legs c.args.outcome c.args.taken c.requires.one (calls_at c.hear-step.new.self) c.hear-step.new.queues c.hear-step.result recorded c.remove_if.new.self removed c.settled-self.result c.settled-self.ensures c.leave.ensures.room c.hear-step.ensures.room (c.hear-step.ensures.servers ∙ c.leave.ensures.servers));
       table = d.table;
+      within = FlightsStayWithin.same_within (in_flight c.leave.new.queues) (in_flight c.hear-step.new.queues) d.limit
+          (FlightsStayWithin.landed_within (in_flight d.queues) (in_flight c.leave.new.queues) d.limit (λ s. is_in_flight_to s (legs d.queues n)) d.within c.leave.ensures.flights) c.hear-step.ensures.flights;
     }
 
 pub returns : goal.returns

@@ -1,6 +1,6 @@
 use Rattle.std.proofs.Common.{◌∙◌, ◌-◌, refl, sym, ap, subst, arith}
 use Rattle.mcv_queues.specs.Legs.{is_flight, is_in_flight}
-use Rattle.mcv_queues.specs.Queues.{legs}
+use Rattle.mcv_queues.specs.Queues.{in_flight, legs}
 use Rattle.mcv_queues.specs.declared.leg.State.TheVariants as states
 use Rattle.mcv_core.specs.CoreView.{HasDone, at_row, step_to, stores}
 use Rattle.mcv_core.specs.Rows.{state_of}
@@ -9,6 +9,7 @@ use Rattle.mcv_core.specs.declared.step.Change.TheVariants as changes
 use Rattle.mcv_core.specs.declared.step.LegState.TheVariants as leg_states
 use Rattle.mcv_events.specs.QueuedLegs.{count_in}
 use Rattle.mcv_core.specs.Soundness.{spooled_in}
+use Rattle.mcv_core.proofs.FlightsStayWithin
 use Rattle.mcv_core.proofs.Landings
 use Rattle.mcv_core.proofs.Landings.{stated}
 use Rattle.mcv_core.proofs.LegViews
@@ -34,6 +35,7 @@ invariant_of-self c =
       sound = subst (λ v. LegViews.IsSoundBy d c.spooled.new.self v) (sym c.stored-self.ensures)
           (LegViews.sound_stored d c.args.leg.0 l.leg l.at l.is c.args.seq c.spooled.new.self c.spooled.ensures.legs c.spooled.ensures.room c.spooled.ensures.servers (d.counts.queued - 1) (omega (arith, some)));
       table = d.table;
+      within = FlightsStayWithin.same_within (in_flight d.queues) (in_flight c.spooled.new.self) d.limit d.within c.spooled.ensures.flights;
     }
 
 pub returns : goal.returns

@@ -29,6 +29,7 @@ invariant_of-self c =
     record {
       sound = subst (λ v. IsSound (arc_value d.accepted) v (legs d.queues) (since_of d) d.moment.0 d.next_call d.next_leg d.counts.reserved d.counts.queued d.counts.spooled d.counts.running (room d.queues) (servers d.queues)) (sym same) d.sound;
       table = d.table;
+      within = d.within;
     }
 
 pub invariant_of-self-2 : goal.invariant_of-self-2
@@ -41,6 +42,7 @@ invariant_of-self-2 c =
       sound = TakenReplies.sound_then d k c.take.new.self c.in-Some.taking c.in-Some.ensures.taken found c.remove_if.new.self c.remove_if.ensures c.taken-self.result c.taken-self.ensures.queued c.taken-self.ensures.spooled
           c.taken-self.ensures.reserved c.taken-self.ensures.running;
       table = d.table;
+      within = d.within;
     }
 
 pub returns : goal.returns

@@ -4,7 +4,7 @@ use Rattle.mcv_core.proofs.Landings.{marked_view}
 use Rattle.mcv_core.proofs.dispatcher.Dispatcher.unmark.Goals as goal
 
 pub invariant_of-self : goal.invariant_of-self
-invariant_of-self c = record { sound = c.args.self.now.sound; table = c.unmark.ensures.servers ∙ c.args.self.now.table }
+invariant_of-self c = record { sound = c.args.self.now.sound; table = c.unmark.ensures.servers ∙ c.args.self.now.table; within = c.args.self.now.within }
 
 pub returns : goal.returns
 returns c =

@@ -34,6 +34,13 @@ returns-in-Lost-clause-answered g c =
     let w = core_view c.lost.new.self in
     subst (λ e. IsAnswered h v e c.state-in-Lost.result w) (sym c.in-Lost.is) (subst (λ a. IsAnswered h v (event.Lost c.in-Lost.leg) a w) (sym c.state-in-Lost.ensures) (AnswersOfCalls.loses h v w c.in-Lost.leg c.lost.result c.lost.ensures))
 
+pub returns-in-LostToo-clause-answered : goal.returns-in-LostToo-clause-answered
+returns-in-LostToo-clause-answered g c =
+    let h = g.H.KeyHash.chosen c.args.self.now.hash in
+    let v = core_view c.args.self.now.dispatcher in
+    let w = core_view c.lost_too.new.self in
+    subst (λ e. IsAnswered h v e c.state-in-LostToo.result w) (sym c.in-LostToo.is) (subst (λ a. IsAnswered h v (event.LostToo c.in-LostToo.leg) a w) (sym c.state-in-LostToo.ensures) (AnswersOfCalls.loses_too h v w c.in-LostToo.leg c.lost_too.result c.lost_too.ensures))
+
 pub returns-in-Spooled-clause-answered : goal.returns-in-Spooled-clause-answered
 returns-in-Spooled-clause-answered g c =
     let h = g.H.KeyHash.chosen c.args.self.now.hash in

@@ -11,4 +11,4 @@ returns-clause-keeps g c =
     let r = arc_value c.args.accepted in
     let same : c.deref.result.now ≡ r = search rules in
     let covered : AreCovered r = subst AreCovered same c.deletes_are_covered.ensures in
-    subst (λ v. KeepsDeletes v (world_of v.rows)) (sym c.in_ok-dispatcher.ensures.view) (DeletesStayKept.opened_cores_keep_deletes r c.args.records.now covered)
+    subst (λ v. KeepsDeletes v (world_of v.rows)) (sym c.in_ok-dispatcher.ensures.view) (DeletesStayKept.opened_cores_keep_deletes 1 r c.args.records.now covered)

@@ -1,15 +1,13 @@
 use Rattle.std.proofs.Common.{◌≡◌, ◌∙◌, ◌+◌, subst}
 use Rattle.std.specs.Prelude.{OnOk}
 use Rattle.std.specs.Arc.{arc_value}
-use Rattle.mcv_pools.specs.Hash.{fnv_index}
-use Rattle.mcv_core.specs.Events.{IsBegun}
-use Rattle.mcv_core.specs.View.{core_view}
-use Rattle.mcv_hub.specs.Events.{IsHubEvent, IsRequested}
+use Rattle.mcv_hub.specs.Events.{IsRequested}
+use Rattle.mcv_hub.specs.Gate.{IsHubBegun}
 use Rattle.mcv_hub.specs.State.{HubView}
 use Rattle.mcv_hub.proofs.guard.Guard.begin.Goals as goal
 
 pub returns-clause-event : goal.returns-clause-event
-returns-clause-event g c = subst (λ h. IsHubEvent (IsBegun (core_view h.core) fnv_index (arc_value c.args.request) c.args.key c.begin.result) h c.begin.new.self) (c.deref_mut.ensures.value ∙ c.self.view_is) c.begin.ensures.event
+returns-clause-event g c = subst (λ h. IsHubBegun h (arc_value c.args.request) c.args.key c.begin.result c.begin.new.self) (c.deref_mut.ensures.value ∙ c.self.view_is) c.begin.ensures.event
 
 pub returns-clause-entry : goal.returns-clause-entry
 returns-clause-entry g c = subst (λ h. OnOk c.begin.result (IsRequested h c.begin.new.self c.args.request c.args.key)) (c.deref_mut.ensures.value ∙ c.self.view_is) c.begin.ensures.entry

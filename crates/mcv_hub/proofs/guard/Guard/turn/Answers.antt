@@ -1,5 +1,5 @@
 use Rattle.std.proofs.Common.{◌∙◌, subst}
-use Rattle.mcv_hub.specs.Events.{IsHubTurn}
+use Rattle.mcv_hub.specs.Gate.{IsHubTurn}
 use Rattle.mcv_hub.proofs.guard.Guard.turn.Goals as goal
 
 pub returns : goal.returns

@@ -9,13 +9,15 @@ pub invariant_of-self : goal.invariant_of-self
 invariant_of-self g c =
     let h : IsEvent (IsUnmarked (core_view c.self.inside.core.dispatcher) c.args.server) (core_view c.unmark.new.self) = subst (λ d. IsEvent (IsUnmarked (core_view d) c.args.server) (core_view c.unmark.new.self)) c.events.ensures.value c.unmark.ensures in
     let none : h.move ≡ None = h.event.none in
-    let goes = unmarked_goes c.self.inside.core.dispatcher (core_view c.unmark.new.self) c.args.server h.move h.event in
-    goes_holds (core_view c.self.inside.core.dispatcher) (core_view c.unmark.new.self) c.self.inside.history.items c.self.inside.chapter c.self.inside.begun.total c.self.inside.taken.total c.self.inside.begun_before c.self.inside.taken_before (vec_len c.self.inside.history) (vec_capacity c.self.inside.history) c.self.inside.places c.self.inside.breaks c.self.invariant h.move goes c.self.inside.history.items c.self.inside.begun.total c.self.inside.taken.total (vec_len c.self.inside.history) (vec_capacity c.self.inside.history) (none_writes (core_view c.self.inside.core.dispatcher).routes c.self.inside.history.items c.self.inside.history.items h.move none refl) (none_begins _ h.move none) (none_takes _ h.move none)
-    (none_longer _ h.move none) refl
+    let goes = unmarked_goes c.self.inside.core.dispatcher (core_view c.unmark.new.self) c.args.server h.move h.event in (
+      goes_holds (core_view c.self.inside.core.dispatcher) (core_view c.unmark.new.self) c.self.inside.history.entries.items c.self.inside.chapter c.self.inside.begun.total c.self.inside.taken.total c.self.inside.begun_before c.self.inside.taken_before (vec_len c.self.inside.history.entries) (vec_capacity c.self.inside.history.entries) c.self.inside.places c.self.inside.breaks c.self.invariant.0 h.move goes c.self.inside.history.entries.items c.self.inside.begun.total c.self.inside.taken.total (vec_len c.self.inside.history.entries) (vec_capacity c.self.inside.history.entries) (none_writes (core_view c.self.inside.core.dispatcher).routes c.self.inside.history.entries.items c.self.inside.history.entries.items h.move none refl) (none_begins _ h.move none) (none_takes _ h.move none)
+          (none_longer _ h.move none) refl,
+      c.self.invariant.1,
+    )
 
 pub returns : goal.returns
 returns g c =
     let h : IsEvent (IsUnmarked (core_view c.self.inside.core.dispatcher) c.args.server) (core_view c.unmark.new.self) = subst (λ d. IsEvent (IsUnmarked (core_view d) c.args.server) (core_view c.unmark.new.self)) c.events.ensures.value c.unmark.ensures in
     let none : h.move ≡ None = h.event.none in
     let goes = unmarked_goes c.self.inside.core.dispatcher (core_view c.unmark.new.self) c.args.server h.move h.event in
-    rw (← c.self.view_is) (hub_event _ _ _ h.move h.event goes.leads (none_writes (core_view c.self.inside.core.dispatcher).routes c.self.inside.history.items c.self.inside.history.items h.move none refl) (none_begins _ h.move none) (none_takes _ h.move none) (record { chapter = refl; begun_before = refl; taken_before = refl }))
+    rw (← c.self.view_is) (hub_event _ _ _ h.move h.event goes.leads (none_writes (core_view c.self.inside.core.dispatcher).routes c.self.inside.history.entries.items c.self.inside.history.entries.items h.move none refl) (none_begins _ h.move none) (none_takes _ h.move none) (record { hub = refl; chapter = refl; entries_before = refl; begun_before = refl; taken_before = refl }))

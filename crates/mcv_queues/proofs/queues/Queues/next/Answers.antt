@@ -1,4 +1,4 @@
-use Rattle.std.proofs.Common.{rules, ◌≡◌, ◌∙◌, ap, sym, Some, None}
+use Rattle.std.proofs.Common.{rules, ◌≡◌, ◌<◌, ◌∙◌, ap, sym, subst, Some, None}
 use Rattle.mcv_queues.specs.Rows.{links, legs}
 use Rattle.mcv_queues.specs.Roots.{root_of}
 use Rattle.mcv_queues.specs.declared.roots.Group.TheVariants.{WaitingFor}
@@ -21,5 +21,5 @@ pub returns-in_default-clause-nothing : goal.returns-in_default-clause-nothing
 returns-in_default-clause-nothing g c = λ f.
     let q = c.args.self.now in
     let none : c.server-state.result.waiting ≡ None = search rules in
-    let free : c.server-state.result.flight ≡ None = search rules in
-    (ap (λ v. v.flight) (sym c.server-state.ensures) ∙ free, QueuesStaySound.first_of_group (legs q.rows) (links q.rows) (root_of q.roots) (WaitingFor c.args.server.0) None q.sound.trees (ap (λ v. v.waiting) (sym c.server-state.ensures) ∙ none))
+    let free : c.server-state.result.flying < c.args.limit = search rules in
+    (subst (λ v. v.flying < c.args.limit) c.server-state.ensures free, QueuesStaySound.first_of_group (legs q.rows) (links q.rows) (root_of q.roots) (WaitingFor c.args.server.0) None q.sound.trees (ap (λ v. v.waiting) (sym c.server-state.ensures) ∙ none))

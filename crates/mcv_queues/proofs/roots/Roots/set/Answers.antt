@@ -21,7 +21,7 @@ index_mut-requires-in-SpooledFor c =
 pub returns-in-WaitingFor-clause-roots : goal.returns-in-WaitingFor-clause-roots
 returns-in-WaitingFor-clause-roots c = λ other.
     let low : c.in-WaitingFor.server < length c.args.self.now.servers.items = ltb-true _ _ (ap (is_known (known c.args.self.now)) (sym c.in-WaitingFor.is) ∙ c.requires) in
-    let v : Server = record { waiting = c.args.root; spooled = c.server-old.result.spooled; flight = c.server-old.result.flight } in
+    let v : Server = record { waiting = c.args.root; spooled = c.server-old.result.spooled; flying = c.server-old.result.flying } in
     let after : Roots = record { servers = with_item c.args.self.now.servers c.in-WaitingFor.server v; held = c.args.self.now.held; refused = c.args.self.now.refused; in_replay = c.args.self.now.in_replay } in
     RootsAreSet.set_waiting c.args.self.now after c.in-WaitingFor.server c.args.root v other refl refl refl refl refl (ap (λ v. v.spooled) c.server-old.ensures) low
     ∙ ap (λ g. put_root (root_of c.args.self.now) g c.args.root other) (sym c.in-WaitingFor.is)
@@ -29,7 +29,7 @@ returns-in-WaitingFor-clause-roots c = λ other.
 pub returns-in-SpooledFor-clause-roots : goal.returns-in-SpooledFor-clause-roots
 returns-in-SpooledFor-clause-roots c = λ other.
     let low : c.in-SpooledFor.server < length c.args.self.now.servers.items = ltb-true _ _ (ap (is_known (known c.args.self.now)) (sym c.in-SpooledFor.is) ∙ c.requires) in
-    let v : Server = record { waiting = c.server-old-in-SpooledFor.result.waiting; spooled = c.args.root; flight = c.server-old-in-SpooledFor.result.flight } in
+    let v : Server = record { waiting = c.server-old-in-SpooledFor.result.waiting; spooled = c.args.root; flying = c.server-old-in-SpooledFor.result.flying } in
     let after : Roots = record { servers = with_item c.args.self.now.servers c.in-SpooledFor.server v; held = c.args.self.now.held; refused = c.args.self.now.refused; in_replay = c.args.self.now.in_replay } in
     RootsAreSet.set_spooled c.args.self.now after c.in-SpooledFor.server c.args.root v other refl refl refl refl refl (ap (λ v. v.waiting) c.server-old-in-SpooledFor.ensures) low
     ∙ ap (λ g. put_root (root_of c.args.self.now) g c.args.root other) (sym c.in-SpooledFor.is)

@@ -1,0 +1,4 @@
+pub mod Crossing
+mod Examples
+mod KeysOfHubs
+mod OneKeys

@@ -1,0 +1,5 @@
+pub mod OneKey
+pub mod Desks
+pub mod Pending
+pub mod Reports
+pub mod Room

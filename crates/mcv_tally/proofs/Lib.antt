@@ -1,0 +1,2 @@
+mod CountedWords
+pub mod Texts

@@ -1,0 +1,234 @@
+"""What an operator asks over HTTP: health, and an end in order, which loses no delete that was answered."""
+import http.client
+import random
+import subprocess
+import threading
+import time
+
+from cases.servers import FAILED, LIMITED
+from cases.stops import CLIENTS, deleting, missing
+from fakes import PERFORM, SILENCE, Fake
+from parts import LIMIT, UNLIMITED, Client, Failed, address_of, case, expect, free_port, one_pool, pending, stored, wait_for
+
+DRAINS = 40
+TEXT = "text/plain; charset=utf-8"
+
+
+def admin_address():
+    return "127.0.0.1:%d" % free_port()
+
+
+def asked(admin, method, target):
+    """Status and body of what is answered to a request."""
+    connection = http.client.HTTPConnection(*address_of(admin), timeout=LIMIT)
+    try:
+        connection.request(method, target)
+        response = connection.getresponse()
+        body = response.read()
+        expect(response.getheader("Content-Type"), TEXT, "a type")
+        expect(response.getheader("Content-Length"), str(len(body)), "a length")
+        return response.status, body
+    finally:
+        connection.close()
+
+
+def raw(admin, sent):
+    """The first line that is answered to these bytes."""
+    with Client(admin) as client:
+        client.send(sent)
+        return client.line()
+
+
+def is_refused(mcv):
+    """Whether a connection is refused."""
+    try:
+        with mcv.client():
+            return False
+    except ConnectionRefusedError:
+        return True
+
+
+def deletes_asynchronously(servers):
+    """A delete is answered at once, and sent to all servers of the pool; anything else goes to the one of its key."""
+    route = {
+        "type": "OperationSelectorRoute",
+        "operation_policies": {"delete": "AllAsyncRoute|Pool|A"},
+        "default_policy": "PoolRoute|A",
+    }
+    return {"pools": {"A": {"servers": servers}}, "route": route}
+
+
+@case()
+def an_operator_asks_for_health(machine):
+    admin = admin_address()
+    mcv = machine.mcv(one_pool(machine.servers(1)), admin=admin)
+    for _ in range(3):
+        expect(asked(admin, "GET", "/health"), (200, b"ok\n"))
+    expect(asked(admin, "GET", "/health?now"), (200, b"ok\n"))
+    expect(asked(admin, "GET", "/"), (404, b"not found\n"))
+    expect(asked(admin, "POST", "/health"), (405, b"method not allowed\n"))
+    expect(asked(admin, "GET", "/drain"), (405, b"method not allowed\n"))
+    expect(asked(admin, "POST", "/drain?seconds=x"), (400, b"bad request\n"))
+    expect(raw(admin, b"delete a\r\n\r\n"), b"HTTP/1.1 400 Bad Request\r\n")
+    expect(raw(admin, b"GET /health HTTP/1.1\r\nX: " + b"x" * 8192), b"HTTP/1.1 431 Request Header Fields Too Large\r\n")
+    shown = subprocess.run(["curl", "-sS", "-i", "http://%s/health" % admin], capture_output=True, timeout=LIMIT)
+    expect((shown.returncode, shown.stderr), (0, b""), "curl")
+    expect(shown.stdout.split(b"\r\n")[0], b"HTTP/1.1 200 OK")
+    with mcv.client() as client:
+        client.ask(b"get a\r\n", b"END\r\n")
+    expect(mcv.error_text(), UNLIMITED)
+
+
+@case()
+def an_operator_who_says_nothing_keeps_no_other_waiting(machine):
+    """A connection has five seconds."""
+    admin = admin_address()
+    machine.mcv(one_pool(machine.servers(1)), admin=admin)
+    with Client(admin) as silent, Client(admin) as slow:
+        slow.send(b"GET /health HTTP/1.1\r\n")
+        began = time.monotonic()
+        expect(asked(admin, "GET", "/health"), (200, b"ok\n"))
+        expect(time.monotonic() - began < 20, True, "seconds")
+        expect((silent.rest(), slow.rest()), (b"", b""))
+
+
+@case()
+def a_spool_that_refuses_is_no_health(machine):
+    admin, spool = admin_address(), machine.path("mcv.spool")
+    mcv = machine.mcv(one_pool(["127.0.0.1:%d" % free_port()]), before=LIMITED, spool=spool, admin=admin)
+    with mcv.client() as client:
+        for key in [b"a", b"b"]:
+            client.ask(b"delete " + key + b"\r\n", b"NOT_FOUND\r\n")
+        expect(asked(admin, "GET", "/health"), (200, b"ok\n"))
+        client.ask(b"delete c\r\n", FAILED)
+        wait_for(lambda: asked(admin, "GET", "/health") == (503, b"the spool refuses records\n"), "the spool is said to refuse")
+        machine.start(["prlimit", "--pid", str(mcv.process.pid), "--fsize=unlimited:"]).wait()
+        wait_for(lambda: asked(admin, "GET", "/health") == (200, b"ok\n"), "the spool takes records again")
+
+
+@case()
+def idle_clients_are_closed_and_none_is_accepted(machine):
+    admin = admin_address()
+    mcv = machine.mcv(one_pool(machine.servers(1)), admin=admin)
+    with mcv.client() as idle, mcv.client() as other:
+        idle.ask(stored(b"a", b"1"), b"STORED\r\n")
+        other.send(b"get a")
+        expect(asked(admin, "POST", "/drain"), (200, b"draining\n"))
+        expect((idle.rest(), other.rest().replace(b"<reset>", b"")), (b"", b""))
+    expect(mcv.last_lines(), (b"mcv closed calls 1\n", 0))
+    expect(mcv.error_text(), UNLIMITED + b"mcv: a drain began: 30 seconds\nmcv: a drain ended\n")
+    expect(is_refused(mcv), True, "no further client is accepted")
+
+
+@case()
+def a_request_under_way_is_answered(machine):
+    """The server is asked before the drain and answers behind it. Meanwhile the proxy says that it drains."""
+    admin, go = admin_address(), threading.Event()
+
+    def mood():
+        go.wait(LIMIT)
+        return PERFORM
+
+    server = machine.fake(Fake(mood))
+    mcv = machine.mcv(one_pool([server.text]), admin=admin)
+    with mcv.client() as client, mcv.client() as idle:
+        client.send(b"delete a\r\n")
+        wait_for(lambda: server.requests, "the server is asked")
+        expect(asked(admin, "POST", "/drain?seconds=20"), (200, b"draining\n"))
+        expect(idle.rest(), b"")
+        expect(asked(admin, "GET", "/health"), (503, b"draining\n"))
+        wait_for(lambda: is_refused(mcv), "no further client is accepted")
+        expect(asked(admin, "POST", "/drain?seconds=25"), (200, b"draining\n"))
+        go.set()
+        expect(client.rest(), b"DELETED\r\n")
+    expect(mcv.last_lines(), (b"mcv closed calls 1\n", 0))
+    expect(mcv.error_text(), UNLIMITED + b"mcv: a drain began: 20 seconds\nmcv: a drain ended\n")
+    expect(server.performed, {b"a"})
+
+
+@case()
+def what_isnt_sent_in_time_goes_to_the_spool(machine):
+    """A server takes a tenth of a second for a delete, so that it has ten of a hundred within a second."""
+    admin, spool = admin_address(), machine.path("mcv.spool")
+
+    def mood():
+        time.sleep(0.1)
+        return PERFORM
+
+    server = machine.fake(Fake(mood))
+    mcv = machine.mcv(deletes_asynchronously([server.text]), spool=spool, admin=admin, server_timeout=5000)
+    keys = [b"k%d" % n for n in range(100)]
+    with mcv.client() as client:
+        client.ask(b"".join(b"delete " + key + b"\r\n" for key in keys), b"NOT_FOUND\r\n" * len(keys))
+    began = time.monotonic()
+    expect(asked(admin, "POST", "/drain?seconds=1"), (200, b"draining\n"))
+    expect(mcv.last_lines(), (b"mcv closed calls 100\n", 0))
+    expect(time.monotonic() - began < 8, True, "seconds")
+    kept = {rest for _, rest in pending(spool)}
+    expect([key for key in keys if key not in server.performed and key not in kept], [], "deletes that are lost")
+    expect(len(kept) > 50, True, "%d records" % len(kept))
+
+
+@case()
+def a_drain_ends_where_the_spool_refuses(machine):
+    """What the spool refused was answered by an error, and goes with the process."""
+    admin, spool = admin_address(), machine.path("mcv.spool")
+    mcv = machine.mcv(one_pool(["127.0.0.1:%d" % free_port()]), before=LIMITED, spool=spool, admin=admin)
+    with mcv.client() as client:
+        for key in [b"a", b"b"]:
+            client.ask(b"delete " + key + b"\r\n", b"NOT_FOUND\r\n")
+        client.ask(b"delete c\r\n", FAILED)
+    expect(asked(admin, "POST", "/drain?seconds=1"), (200, b"draining\n"))
+    expect(mcv.last_lines(), (b"mcv closed calls 3\n", 0))
+    expect([rest for _, rest in pending(spool)], [b"a", b"b"])
+
+
+@case()
+def a_leg_under_way_keeps_its_own_time(machine):
+    """It was begun before the drain, and its server never answers: what ends it puts its delete into the spool."""
+    admin, spool = admin_address(), machine.path("mcv.spool")
+    server = machine.fake(Fake(lambda: SILENCE))
+    mcv = machine.mcv(deletes_asynchronously([server.text]), spool=spool, admin=admin, server_timeout=3000)
+    with mcv.client() as client:
+        client.ask(b"delete a\r\n", b"NOT_FOUND\r\n")
+        wait_for(lambda: server.requests, "the server is asked")
+        expect(asked(admin, "POST", "/drain?seconds=0"), (200, b"draining\n"))
+        expect(client.rest(), b"")
+    expect(mcv.last_lines(), (b"mcv closed calls 1\n", 0))
+    expect([rest for _, rest in pending(spool)], [b"a"])
+
+
+@case(600)
+def forty_drains_lose_no_answered_delete(machine):
+    """Clients under load, deletes that are answered before they are sent, and servers that are slow: what was answered is
+    performed or in the file. Five drains have one file."""
+    seed = random.randrange(1 << 32)
+    chosen, admin, count = random.Random(seed), admin_address(), 0
+
+    def mood():
+        time.sleep(chosen.uniform(0, 0.004))
+        return PERFORM
+
+    servers = [machine.fake(Fake(mood)) for _ in range(3)]
+    config = deletes_asynchronously([server.text for server in servers])
+    for turn in range(DRAINS):
+        if turn % 5 == 0:
+            every, spool = [], machine.path("mcv.spool.%d" % turn)
+        mcv = machine.mcv(config, spool=spool, admin=admin, server_timeout=5000, hubs=1 + turn % 3)
+        acknowledged = []
+        threads = [threading.Thread(target=deleting, args=(mcv, b"%d.%d" % (turn, n), acknowledged)) for n in range(CLIENTS)]
+        for thread in threads:
+            thread.start()
+        wait_for(lambda: acknowledged, "a first delete is acknowledged")
+        time.sleep(chosen.uniform(0, 0.1))
+        expect(asked(admin, "POST", "/drain?seconds=%d" % chosen.choice([0, 1, 2])), (200, b"draining\n"))
+        for thread in threads:
+            thread.join()
+        lines, status = mcv.last_lines()
+        expect((lines.split(b" ")[:3], status), ([b"mcv", b"closed", b"calls"], 0), "drain %d (seed %d)" % (turn, seed))
+        every += acknowledged
+        count += len(acknowledged)
+        lost = list(missing(every, servers, spool))
+        if lost:
+            raise Failed("after drain %d (seed %d) %d of %d are lost, as %r" % (turn, seed, len(lost), len(every), lost[0]))
+    expect(count > 100, True, "%d deletes" % count)

@@ -1,0 +1,210 @@
+"""What an operator is shown of what happened, in Prometheus' format."""
+import contextlib
+import http.client
+import subprocess
+
+from cases.crowds import TOO_MANY
+from cases.drains import admin_address, deletes_asynchronously
+from cases.servers import LIMITED
+from fakes import DROP, PERFORM, SILENCE, Fake
+from parts import LIMIT, address_of, case, expect, free_port, one_pool, stored, wait_for
+
+TYPE = "text/plain; version=0.0.4; charset=utf-8"
+
+
+def text(admin):
+    """The lines that are shown."""
+    connection = http.client.HTTPConnection(*address_of(admin), timeout=LIMIT)
+    try:
+        connection.request("GET", "/metrics")
+        response = connection.getresponse()
+        body = response.read().decode()
+        expect((response.status, response.getheader("Content-Type")), (200, TYPE))
+        expect(response.getheader("Content-Length"), str(len(body)), "a length")
+        return body
+    finally:
+        connection.close()
+
+
+def shown(admin):
+    """The value of each sample."""
+    lines = (line.rsplit(" ", 1) for line in text(admin).splitlines() if not line.startswith("#"))
+    return {sample: int(value) for sample, value in lines}
+
+
+def legs(admin, server):
+    """How many legs a server was sent, how many of them were lost, and how many hubs have marked it."""
+    every = shown(admin)
+    return tuple(every['%s{server="%s"}' % (name, server)] for name in ("mcv_legs_sent_total", "mcv_legs_lost_total", "mcv_server_marked"))
+
+
+@case()
+def promtool_reads_the_metrics(machine):
+    admin = admin_address()
+    machine.mcv(one_pool(machine.servers(3)), admin=admin, hubs=2)
+    checked = subprocess.run(["promtool", "check", "metrics"], input=text(admin).encode(), capture_output=True, timeout=LIMIT)
+    expect((checked.returncode, checked.stdout + checked.stderr), (0, b""), "promtool")
+    fetched = subprocess.run(["curl", "-sS", "http://%s/metrics" % admin], capture_output=True, timeout=LIMIT)
+    expect((fetched.returncode, fetched.stderr), (0, b""), "curl")
+    expect('mcv_build_info{version="1"} 1' in fetched.stdout.decode().splitlines(), True, "a version")
+
+
+@case()
+def legs_are_those_that_the_servers_saw(machine):
+    """The servers count what they were asked; a connection that breaks behind a store loses its leg."""
+    admin, mood = admin_address(), [PERFORM]
+    servers = [machine.fake(Fake(lambda: mood[0])) for _ in range(2)]
+    mcv = machine.mcv(one_pool([server.text for server in servers]), admin=admin, hubs=3)
+    expect([legs(admin, server.text) for server in servers], [(0, 0, 0)] * 2)
+    with contextlib.ExitStack() as kept:
+        clients = [kept.enter_context(mcv.client()) for _ in range(6)]
+        for n in range(20):
+            for client in clients:
+                client.ask(b"get k%d\r\ndelete k%d\r\n" % (n, n), b"END\r\nDELETED\r\n")
+        expect([legs(admin, server.text) for server in servers], [(len(server.requests), 0, 0) for server in servers])
+        expect(sum(legs(admin, server.text)[0] for server in servers), 240, "legs")
+        mood[0] = DROP
+        lost = sum(client_failed(client, b"s%d" % n) for n, client in enumerate(clients))
+        expect(sum(legs(admin, server.text)[1] for server in servers), lost, "legs that are lost")
+        expect(lost, 6)
+
+
+def client_failed(client, key):
+    """1, where a store isn't answered by a server."""
+    client.ask(stored(key, b"1"), b"SERVER_ERROR destination failed\r\n")
+    return 1
+
+
+@case()
+def a_server_that_is_marked_is_shown(machine):
+    admin, port = admin_address(), free_port()
+    server = "127.0.0.1:%d" % port
+    mcv = machine.mcv(one_pool([server]), admin=admin)
+    with mcv.client() as client:
+        for n in range(3):
+            client.ask(stored(b"k%d" % n, b"1"), b"SERVER_ERROR destination failed\r\n")
+        wait_for(lambda: legs(admin, server)[2] == 1, "the server is marked")
+        machine.memcached(port=port)
+
+        def back():
+            client.send(stored(b"a", b"1"))
+            return client.line() == b"STORED\r\n"
+
+        wait_for(back, "the server is asked again")
+        wait_for(lambda: legs(admin, server)[2] == 0, "the server isn't marked any more")
+
+
+def sums(admin, name, label):
+    """The samples of a family that aren't 0, by the values of its label."""
+    begin = '%s{%s="' % (name, label)
+    return {sample[len(begin) : -2]: value for sample, value in shown(admin).items() if sample.startswith(begin) and value}
+
+
+@case()
+def calls_are_counted_by_what_they_ask_and_get(machine):
+    admin = admin_address()
+    mcv = machine.mcv(one_pool(machine.servers(2)), admin=admin, hubs=2)
+    with mcv.client() as client:
+        client.ask(stored(b"a", b"1"), b"STORED\r\n")
+        client.ask(b"get a b c\r\n", b"VALUE a 0 1\r\n1\r\nEND\r\n")
+        client.ask(b"incr a 2\r\n", b"3\r\n")
+        client.ask(b"delete a\r\ndelete a\r\n", b"DELETED\r\nNOT_FOUND\r\n")
+        client.ask(b"get /other/pool/a\r\n", b"SERVER_ERROR no route\r\n")
+    expect(sums(admin, "mcv_calls_total", "operation"), {"set": 1, "get": 3, "incr": 1, "delete": 2})
+    expect(sums(admin, "mcv_replies_total", "outcome"), {"stored": 1, "hit": 1, "miss": 2, "number": 1, "deleted": 1, "not_found": 1})
+    expect(sums(admin, "mcv_refusals_total", "cause"), {"no_route": 1})
+
+
+@case()
+def records_are_counted_until_they_are_performed(machine):
+    admin, port, spool = admin_address(), free_port(), machine.path("mcv.spool")
+    server = "127.0.0.1:%d" % port
+    config = one_pool([server])
+    first = machine.mcv(config, spool=spool)
+    with first.client() as client:
+        client.ask(b"delete a\r\n", b"NOT_FOUND\r\n")
+    first.kill()
+    machine.mcv(config, spool=spool, admin=admin)
+
+    def records():
+        every = shown(admin)
+        names = ("mcv_records_pending", "mcv_records_spooled_total", 'mcv_records_replayed_total{server="%s"}' % server)
+        return tuple(every[name] for name in names)
+
+    expect(records(), (1, 0, 0))
+    wait_for(lambda: shown(admin)["mcv_spool_slots"] == 1, "a slot is used")
+    machine.memcached(port=port)
+    wait_for(lambda: records() == (0, 0, 1), "the delete is performed")
+    expect(shown(admin)["mcv_spool_slots"], 1, "slots of records that are done are used")
+
+
+@case()
+def the_chapters_of_hubs_are_shown(machine):
+    admin = admin_address()
+    mcv = machine.mcv(one_pool(machine.servers(1)), admin=admin, hubs=3)
+    hubs = {str(n) for n in range(3)}
+    every = [sample for sample in shown(admin) if sample.startswith("mcv_chapter_entries")]
+    expect(sorted(every), ['mcv_chapter_entries{hub="%d"}' % n for n in range(3)])
+    with mcv.client() as client:
+        for n in range(100):
+            client.ask(b"get k%d\r\n" % n, b"END\r\n")
+    expect(set(sums(admin, "mcv_chapter_entries", "hub")), hubs, "hubs that were asked")
+    expect(set(sums(admin, "mcv_chapter_bytes", "hub")), hubs, "hubs that were asked")
+    before = sums(admin, "mcv_chapter_entries", "hub")
+    with mcv.client() as client:
+        client.ask(b"get " + b" ".join(b"k%d" % n for n in range(100)) + b"\r\n", b"END\r\n")
+    after = sums(admin, "mcv_chapter_entries", "hub")
+    expect([hub for hub in hubs if after[hub] <= before[hub]], [], "hubs that one request has asked")
+    expect(sums(admin, "mcv_chapters_turned_total", "hub"), {})
+
+
+@case(120)
+def requests_without_a_place_are_refused_and_said(machine):
+    """A server never answers, and nobody waits for it: 65,536 deletes wait, and one is under way or on its way into that."""
+    admin, server = admin_address(), machine.fake(Fake(lambda: SILENCE))
+    mcv = machine.mcv(deletes_asynchronously([server.text]), admin=admin, server_timeout=100000)
+    answers = []
+    with mcv.client() as client:
+        for n in range(66):
+            client.send(b"".join(b"delete k%d.%d\r\n" % (n, k) for k in range(1000)))
+            answers += [client.line() for _ in range(1000)]
+        taken = answers.index(b"SERVER_ERROR busy\r\n")
+        expect(set(answers[:taken]), {b"NOT_FOUND\r\n"})
+        expect(set(answers[taken:]), {b"SERVER_ERROR busy\r\n"})
+        expect(taken in (65536, 65537), True, "%d deletes" % taken)
+        expect(sums(admin, "mcv_refusals_total", "cause"), {"busy": len(answers) - taken})
+        expect(mcv.error_text(), b"mcv: too many legs wait: 1 refused\n")
+
+
+@case()
+def clients_are_counted(machine):
+    admin = admin_address()
+    mcv = machine.mcv(one_pool(machine.servers(1)), admin=admin, max_clients=2)
+
+    def clients():
+        every = shown(admin)
+        return tuple(every[name] for name in ("mcv_clients", "mcv_clients_accepted_total", "mcv_clients_refused_total"))
+
+    expect(clients(), (0, 0, 0))
+    with mcv.client() as one, mcv.client() as two:
+        for client in (one, two):
+            client.ask(b"get a\r\n", b"END\r\n")
+        expect(clients(), (2, 2, 0))
+        for _ in range(3):
+            with mcv.client() as other:
+                expect(other.rest(), TOO_MANY)
+        expect(clients(), (2, 2, 3))
+    wait_for(lambda: clients() == (0, 2, 3), "the clients are gone")
+
+
+@case()
+def a_spool_that_refuses_is_shown(machine):
+    admin, spool = admin_address(), machine.path("mcv.spool")
+    mcv = machine.mcv(one_pool(["127.0.0.1:%d" % free_port()]), before=LIMITED, spool=spool, admin=admin)
+    with mcv.client() as client:
+        for key in [b"a", b"b", b"c"]:
+            client.send(b"delete " + key + b"\r\n")
+            client.line()
+        wait_for(lambda: shown(admin)["mcv_spool_refusing"] == 1, "the spool is said to refuse")
+        machine.start(["prlimit", "--pid", str(mcv.process.pid), "--fsize=unlimited:"]).wait()
+        wait_for(lambda: shown(admin)["mcv_spool_refusing"] == 0, "the spool takes records again")
