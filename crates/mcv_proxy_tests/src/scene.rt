@@ -314,6 +314,10 @@ impl Watch for Stopped {
         thread::yield_now();
     }
 
+    fn rest(&mut self) {
+        thread::yield_now();
+    }
+
     fn respite(&self) -> Duration {
         Duration::from_millis(1)
     }
