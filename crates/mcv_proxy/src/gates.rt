@@ -90,8 +90,10 @@ pub trait Watch: Drop {
     /// Waits for a second.
     fn pause(&mut self);
 
-    /// Waits for a tenth of a second.
-    fn rest(&mut self);
+    /// Waits for a tenth of a second; where there is nothing shorter, as `pause` does.
+    fn rest(&mut self) {
+        self.pause();
+    }
 
     /// For how long a spool that has refused a record isn't asked again.
     fn respite(&self) -> Duration {
@@ -134,8 +136,6 @@ impl Watch for Moment {
     }
 
     fn pause(&mut self) {}
-
-    fn rest(&mut self) {}
 }
 
 /// What a proxy talks to: servers, a disk, clients and the clock.

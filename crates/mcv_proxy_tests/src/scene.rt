@@ -314,10 +314,6 @@ impl Watch for Stopped {
         thread::yield_now();
     }
 
-    fn rest(&mut self) {
-        thread::yield_now();
-    }
-
     fn respite(&self) -> Duration {
         Duration::from_millis(1)
     }
