@@ -11,6 +11,7 @@ ghost use Rattle.mcv_fleet.specs.Reports.{IsReport};
 
 use crate::crew::{Crew, tools_of};
 use crate::host::accept;
+use crate::leftovers::queued_legs;
 use crate::posts::{Shared, accepted_of, hubs_of, posts_of};
 use crate::running::{Done, Running};
 use crossbeam_channel::{Receiver, Sender};
@@ -114,7 +115,7 @@ fn serve_clients<
     running.gather(&rt)
 }
 
-/// Serves all clients, and has the workers end: what the sessions handed back.
+/// Serves all clients, has the workers end, and says how many legs are left: what the sessions handed back.
 fn run<
     F: HubNames + Send + Sync + 'static,
     N: Names + Send + Sync + 'static,
@@ -139,6 +140,7 @@ fn run<
         crew.dismiss(&rt, shared, hub, &mut pass);
         hub = hub.saturating_add(1);
     }
+    gates.ended(queued_legs(&rt, shared, &mut pass));
     done
 }
 

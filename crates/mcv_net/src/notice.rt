@@ -39,8 +39,10 @@ pub enum Notice<'a> {
     Unlimited,
     /// No more clients are accepted, and all has to be done within so many seconds.
     Draining(u64),
-    /// All is done.
-    Drained,
+    /// The chapter of a hub that was full has ended, and calls begin in the next one.
+    Turned,
+    /// All is done, and so many legs are left that the spool refused.
+    Drained(u64),
 }
 
 impl<'a> fmt::Display for Notice<'a> {
@@ -62,7 +64,9 @@ impl<'a> fmt::Display for Notice<'a> {
             }
             Notice::More(held) => write!(f, "mcv: {held} lines more in a second"),
             Notice::Draining(seconds) => write!(f, "mcv: a drain began: {seconds} seconds"),
-            Notice::Drained => write!(f, "mcv: a drain ended"),
+            Notice::Turned => write!(f, "mcv: the chapter begins again"),
+            Notice::Drained(0) => write!(f, "mcv: a drain ended"),
+            Notice::Drained(left) => write!(f, "mcv: a drain ended: {left} legs left"),
             Notice::Unlimited => write!(
                 f,
                 "mcv: no --server-timeout: a server that never answers will stop all clients"

@@ -419,6 +419,14 @@ fn notices_are_lines(rt: HostRuntime) {
         Notice::Full(Shortage::Chapter, 1),
         "mcv: the chapter is full: 1 refused",
     );
+    check_notice(&rt, alloc, Notice::Turned, "mcv: the chapter begins again");
+    check_notice(&rt, alloc, Notice::Drained(0), "mcv: a drain ended");
+    check_notice(
+        &rt,
+        alloc,
+        Notice::Drained(2),
+        "mcv: a drain ended: 2 legs left",
+    );
     check_notice(&rt, alloc, Notice::More(3), "mcv: 3 lines more in a second");
     check_notice(
         &rt,
