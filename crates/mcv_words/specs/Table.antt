@@ -1,7 +1,8 @@
 -- The options that take a number, a row each: from it come what clap is told of the option, the name by which its value is found, and the range of
 -- the type of its value (own).
-use Rattle.std.specs.Prelude.{ℕ, Option, None, Some, codes}
+use Rattle.std.specs.Prelude.{ℕ, Option, None, Some, codes, option_map}
 use Rattle.clap.specs.Words.{Text}
+use Rattle.mcv_words.specs.declared.table.NumberRow.{NumberRow}
 
 -- `--name N`: the least N and the most, and the text that stands for N where the option isn't given, or none where it may be left out
 pub record NumberOption : Type 0 where
@@ -9,6 +10,10 @@ pub record NumberOption : Type 0 where
   pub least : ℕ
   pub most : ℕ
   pub default : Option Text
+
+-- what a row of the code's table says of its option
+abbrev pub option_of : NumberRow → NumberOption
+option_of row = record { name = row.name.now; least = row.least; most = row.most; default = option_map (λ text. text.now) row.default }
 
 -- the moment of a request, in seconds
 abbrev pub at_option : NumberOption

@@ -8,7 +8,7 @@ use Rattle.clap.specs.declared.builder.action.ArgAction.TheVariants.{SetTrue}
 use Rattle.clap.specs.declared.builder.value_parser.ValueParser.TheVariants as parsers
 use Rattle.clap.specs.declared.error.kind.ErrorKind.{ErrorKind}
 use Rattle.clap.specs.declared.error.kind.ErrorKind.TheVariants.{DisplayHelp, DisplayVersion, OutOfMemory}
-use Rattle.mcv_words.specs.Table.{NumberOption, at_option, client_timeout_option, hubs_option, max_clients_option, server_timeout_option, sessions_option, window_option}
+use Rattle.mcv_words.specs.Table.{NumberOption, at_option, client_timeout_option, hubs_option, max_clients_option, option_of, server_timeout_option, sessions_option, window_option}
 use Rattle.mcv_words.specs.declared.options.CheckOptions.{CheckOptions}
 use Rattle.mcv_words.specs.declared.options.ClientTimeout.{ClientTimeout}
 use Rattle.mcv_words.specs.declared.options.MaxClients.{MaxClients}
@@ -18,7 +18,6 @@ use Rattle.mcv_words.specs.declared.options.Sessions.{Sessions}
 use Rattle.mcv_words.specs.declared.options.Settings.{Settings}
 use Rattle.mcv_words.specs.declared.options.SpoolOptions.{SpoolOptions}
 use Rattle.mcv_words.specs.declared.table.FlagRow.{FlagRow}
-use Rattle.mcv_words.specs.declared.table.NumberRow.{NumberRow}
 use Rattle.mcv_words.specs.declared.table.OptionRow.{OptionRow}
 use Rattle.mcv_words.specs.declared.table.OptionRow.TheVariants as OptionRows
 use Rattle.mcv_words.specs.declared.table.TextRow.{TextRow}
@@ -55,9 +54,6 @@ flag_rule name = record (new_rule name) {
 }
 
 -- what a row of the code's table says of its option
-abbrev pub option_of : NumberRow → NumberOption
-option_of row = record { name = row.name.now; least = row.least; most = row.most; default = option_map (λ text. text.now) row.default }
-
 abbrev pub text_row_rule : TextRow → Rule
 text_row_rule row = record (option_rule row.name.now) { required = row.is_required }
 

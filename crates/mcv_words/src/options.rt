@@ -1,9 +1,7 @@
 //! What `check` and `run` are asked for. Each number has a type of its own, which keeps it in the range of its option's row.
 
 ghost use Rattle.std.specs.Prelude.{◌≡◌, ◌↔◌, ◌≤◌, ℕ, IfSome, IsSome};
-ghost use Rattle.mcv_words.specs.Table.{client_timeout_option, hubs_option, max_clients_option, server_timeout_option, sessions_option, window_option};
-ghost use Rattle.mcv_words.specs.declared.table.NumberRow.{NumberRow};
-ghost use Rattle.mcv_words.specs.declared.table.TheConstants.{CLIENT_TIMEOUT, HUBS, MAX_CLIENTS, SERVER_TIMEOUT, SESSIONS, WINDOW};
+ghost use Rattle.mcv_words.specs.Table.{NumberOption, client_timeout_option, hubs_option, max_clients_option, option_of, server_timeout_option, sessions_option, window_option};
 
 use crate::table::{
     CLIENT_TIMEOUT, HUBS, MAX_CLIENTS, NumberRow, SERVER_TIMEOUT, SESSIONS, WINDOW,
@@ -11,16 +9,17 @@ use crate::table::{
 
 /// A number that an option takes.
 pub trait InRange: Drop + Sized {
-    /// The option.
-    const ROW: NumberRow;
-
-    ghost ROW: { NumberRow };
+    ghost option: { NumberOption };
 
     ghost value: { Self → ℕ };
 
+    /// The row of the option.
+    fn row() -> NumberRow
+        ensures { option_of result ≡ option };
+
     /// This number; None where it is out of the option's range.
     fn new(number: u64) -> Option<Self>
-        ensures some { IsSome result ↔ ((ROW.least ≤ number) × (number ≤ ROW.most)) }
+        ensures some { IsSome result ↔ ((option.least ≤ number) × (number ≤ option.most)) }
         ensures value { IfSome result (λ made. value made ≡ number) };
 }
 
@@ -32,14 +31,16 @@ pub struct Sessions {
 }
 
 impl InRange for Sessions {
-    const ROW: NumberRow = SESSIONS;
-
-    ghost ROW = { SESSIONS };
+    ghost option = { sessions_option };
 
     ghost value = { λ sessions. sessions.count };
 
+    fn row() -> NumberRow {
+        SESSIONS
+    }
+
     fn new(number: u64) -> Option<Sessions> {
-        if !Self::ROW.contains(number) {
+        if !Self::row().contains(number) {
             return None;
         }
         Some(Sessions { count: number })
@@ -54,14 +55,16 @@ pub struct Hubs {
 }
 
 impl InRange for Hubs {
-    const ROW: NumberRow = HUBS;
-
-    ghost ROW = { HUBS };
+    ghost option = { hubs_option };
 
     ghost value = { λ hubs. hubs.count };
 
+    fn row() -> NumberRow {
+        HUBS
+    }
+
     fn new(number: u64) -> Option<Hubs> {
-        if !Self::ROW.contains(number) {
+        if !Self::row().contains(number) {
             return None;
         }
         Some(Hubs { count: number })
@@ -76,14 +79,16 @@ pub struct Window {
 }
 
 impl InRange for Window {
-    const ROW: NumberRow = WINDOW;
-
-    ghost ROW = { WINDOW };
+    ghost option = { window_option };
 
     ghost value = { λ window. window.seconds };
 
+    fn row() -> NumberRow {
+        WINDOW
+    }
+
     fn new(number: u64) -> Option<Window> {
-        if !Self::ROW.contains(number) {
+        if !Self::row().contains(number) {
             return None;
         }
         Some(Window { seconds: number })
@@ -98,14 +103,16 @@ pub struct ServerTimeout {
 }
 
 impl InRange for ServerTimeout {
-    const ROW: NumberRow = SERVER_TIMEOUT;
-
-    ghost ROW = { SERVER_TIMEOUT };
+    ghost option = { server_timeout_option };
 
     ghost value = { λ timeout. timeout.millis };
 
+    fn row() -> NumberRow {
+        SERVER_TIMEOUT
+    }
+
     fn new(number: u64) -> Option<ServerTimeout> {
-        if !Self::ROW.contains(number) {
+        if !Self::row().contains(number) {
             return None;
         }
         Some(ServerTimeout { millis: number })
@@ -120,14 +127,16 @@ pub struct ClientTimeout {
 }
 
 impl InRange for ClientTimeout {
-    const ROW: NumberRow = CLIENT_TIMEOUT;
-
-    ghost ROW = { CLIENT_TIMEOUT };
+    ghost option = { client_timeout_option };
 
     ghost value = { λ timeout. timeout.millis };
 
+    fn row() -> NumberRow {
+        CLIENT_TIMEOUT
+    }
+
     fn new(number: u64) -> Option<ClientTimeout> {
-        if !Self::ROW.contains(number) {
+        if !Self::row().contains(number) {
             return None;
         }
         Some(ClientTimeout { millis: number })
@@ -142,14 +151,16 @@ pub struct MaxClients {
 }
 
 impl InRange for MaxClients {
-    const ROW: NumberRow = MAX_CLIENTS;
-
-    ghost ROW = { MAX_CLIENTS };
+    ghost option = { max_clients_option };
 
     ghost value = { λ clients. clients.count };
 
+    fn row() -> NumberRow {
+        MAX_CLIENTS
+    }
+
     fn new(number: u64) -> Option<MaxClients> {
-        if !Self::ROW.contains(number) {
+        if !Self::row().contains(number) {
             return None;
         }
         Some(MaxClients { count: number })

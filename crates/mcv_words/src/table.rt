@@ -4,7 +4,8 @@
 ghost use Rattle.std.specs.Prelude.{◌≡◌, ◌↔◌, ◌≤◌, fold, map, false, IfOk, IsTrue};
 ghost use Rattle.clap.specs.Words.{app_of, rule_of, with_rule};
 ghost use Rattle.clap.specs.declared.builder.command.Command.TheViews.{out-Command as fields_of};
-ghost use Rattle.mcv_words.specs.Words.{flag_row_rule, number_rule, option_of, row_rule, text_row_rule};
+ghost use Rattle.mcv_words.specs.Table.{option_of};
+ghost use Rattle.mcv_words.specs.Words.{flag_row_rule, number_rule, row_rule, text_row_rule};
 
 use clap::builder::ValueParser;
 use clap::{Arg, ArgAction, Command};

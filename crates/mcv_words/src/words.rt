@@ -5,7 +5,7 @@ ghost use Rattle.std.specs.Prelude.{◌≡◌, codes, false, option_map, IfOk, I
 ghost use Rattle.clap.specs.Words.{Text, app_of, first_of, found_of, kind_of, rows_of, rule_of};
 ghost use Rattle.clap.specs.declared.builder.command.Command.TheViews.{out-Command as fields_of};
 ghost use Rattle.mcv_words.specs.Table.{window_option};
-ghost use Rattle.mcv_words.specs.Words.{check_app, draw_app, file_rule, legs_app, line_fault_number, mcv_app, mend_app, option_of, run_app, spool_app, CanRun, IsCheckOf, IsDrawOf, IsFaultOfKind, IsGivenIn, IsJobOf, IsLineFault, IsMendOf, IsNumberIfGiven, IsRunOf, IsSpoolOf, MayBeGivenIn};
+ghost use Rattle.mcv_words.specs.Words.{check_app, draw_app, file_rule, legs_app, line_fault_number, mcv_app, mend_app, run_app, spool_app, CanRun, IsCheckOf, IsDrawOf, IsFaultOfKind, IsGivenIn, IsJobOf, IsLineFault, IsMendOf, IsNumberIfGiven, IsRunOf, IsSpoolOf, MayBeGivenIn};
 ghost use Rattle.mcv_words.specs.declared.words.LineFault.TheVariants.{Memory as out_of_memory};
 
 use crate::help::{
@@ -210,10 +210,10 @@ fn line_fault(alloc: Global, error: &ClapError) -> LineFault
 /// The number that clap found for an option; None where it found no value. An error is that the value is no number, or out
 /// of range.
 fn number_of<T: InRange>(found: &ArgMatches<'_>) -> Result<Option<T>, LineFault>
-    ensures number { IfOk result (λ number. IsNumberIfGiven T.ROW.name.now (rows_of (found_of found.now)) (option_map T.value number)) }
-    ensures ok { MayBeGivenIn (option_of T.ROW) (rows_of (found_of found.now)) → IsOk result }
+    ensures number { IfOk result (λ number. IsNumberIfGiven T.option.name (rows_of (found_of found.now)) (option_map T.value number)) }
+    ensures ok { MayBeGivenIn T.option (rows_of (found_of found.now)) → IsOk result }
 {
-    match found.try_get_one::<u64>(T::ROW.name) {
+    match found.try_get_one::<u64>(T::row().name) {
         Ok(Some(number)) => match T::new(number) {
             Some(number) => Ok(Some(number)),
             None => Err(LineFault::BadLine),
