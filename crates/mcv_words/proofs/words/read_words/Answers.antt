@@ -5,9 +5,10 @@ use Rattle.std.specs.Str.Parse.{ParsesUnsigned, ExplainsUnsignedError, HasUnsign
 use Rattle.clap.proofs.WalkLemmas.{one_text-rows}
 use Rattle.clap.proofs.OnLiterals.{clap_on_literals}
 use Rattle.clap.proofs.ValueTestLemmas.{accepts-Accepts}
-use Rattle.mcv_words.specs.Ranges.{window_limit}
+use Rattle.clap.specs.declared.builder.value_parser.ValueParser.TheVariants as parsers
+use Rattle.mcv_words.specs.Table.{at_option, window_option}
 use Rattle.mcv_words.specs.Words.{mcv_app}
-use Rattle.mcv_words.proofs.OptionValues.{at_parser, check_values, legs_values, run_values, spool_values}
+use Rattle.mcv_words.proofs.OptionValues.{check_values, legs_values, run_values, spool_values}
 use Rattle.mcv_words.proofs.Matches.{can_run, check_asked, draw_asked, fault_of_kind, given_in, named_rows, name_of_rows, no_number, number_of, run_asked, spool_asked, mend_asked}
 use Rattle.mcv_words.proofs.CommandIsNamed.{taken}
 use Rattle.mcv_words.proofs.words.read_words.Goals as goal
@@ -34,7 +35,7 @@ returns-in_default-check_job-clause-fault c =
     let none = sym (ap (λ (a : App). fault_of a words) c.in_ok-command.ensures) ∙ c.in-Ok.ensures.kinds (ap is_simple_and_free c.in_ok-command.ensures ∙ free) in
     let found = found_of c.in-Some.found.now in
     let check = sym held ∙ named_rows c.in-Ok.matches (codes "check") (rows_of found) (c.in-Some.ensures.found.0 refl) c.in-Some.ensures.rows in
-    absurd (true≢false (sym (c.in_default-check_job.ensures.ok (given_in (codes "window") 0 window_limit (rows_of found) (check_values words (rows_of found) none check)))))
+    absurd (true≢false (sym (c.in_default-check_job.ensures.ok (given_in window_option (rows_of found) (check_values words (rows_of found) none check)))))
 
 pub returns-in-Some-clause-job : goal.returns-in-Some-clause-job
 returns-in-Some-clause-job c =
@@ -122,9 +123,9 @@ returns-in_default-get_one-clause-fault c =
     let found = found_of c.in-Some-subcommand_matches-5.found.now in
     let legs = sym held ∙ named_rows c.in-Ok.matches (codes "legs") (rows_of found) (c.in-Some-subcommand_matches-5.ensures.found.0 refl) c.in-Some-subcommand_matches-5.ensures.rows in
     let at = legs_values words (rows_of found) none legs in
-    let takes = accepts-Accepts false at_parser at.0 at.2 in
+    let takes = accepts-Accepts false (parsers.Unsigned at_option.least at_option.most) at.0 at.2 in
     absurd (no_number (λ bs r. ParsesUnsigned 64 10 bs r × ExplainsUnsignedError 10 bs r × HasUnsignedDigitsIfOk bs r) at.0 (λ t x h. h.0) takes.0 takes.1
-    (c.in_default-get_one.ensures.value at.0 (one_text-rows found (codes "at") ∙ at.1)))
+    (c.in_default-get_one.ensures.value at.0 (one_text-rows found at_option.name ∙ at.1)))
 
 pub returns-clause-job : goal.returns-clause-job
 returns-clause-job c =
@@ -137,6 +138,6 @@ returns-clause-job c =
       none,
       rows_of found,
       legs,
-      number_of (λ bs r. ParsesUnsigned 64 10 bs r × ExplainsUnsignedError 10 bs r × HasUnsignedDigitsIfOk bs r) (codes "at") (rows_of found) at.0 c.in-Some-get_one.at (λ t x h. h.0) at.1
-          (c.in-Some-get_one.ensures.value at.0 (one_text-rows found (codes "at") ∙ at.1)),
+      number_of (λ bs r. ParsesUnsigned 64 10 bs r × ExplainsUnsignedError 10 bs r × HasUnsignedDigitsIfOk bs r) at_option.name (rows_of found) at.0 c.in-Some-get_one.at (λ t x h. h.0) at.1
+          (c.in-Some-get_one.ensures.value at.0 (one_text-rows found at_option.name ∙ at.1)),
     )
