@@ -1,22 +1,19 @@
 -- What clap's matches and errors say of the words.
 use Rattle.std.proofs.Common.{◌≡◌, ◌∙◌, ◌⊎◌, ◌<◌, ◌≤◌, ◌^◌, inl, inr, ℕ, List, [], Option, Some, None, false, codes, refl, ap, ap₂, subst, sym}
-use Rattle.std.specs.Prelude.{Box, Result, Ok, Err, IsSome, option_map}
+use Rattle.std.specs.Prelude.{Box, Result, Ok, Err, option_map}
 use Rattle.std.specs.Str.Parse.{IsNumeral, ParsesUnsigned, digits_value, without_leading_plus}
 use Rattle.std.specs.Box.{box_value}
 use Rattle.clap.specs.Words.{IsAmong, ReadsOne, Row, Text, TriesOne, one_of, subcommand_rows_of, subcommand_name_of}
-use Rattle.clap.proofs.ValueTestLemmas.{accepts-Accepts}
-use Rattle.clap.specs.declared.builder.value_parser.ValueParser.TheVariants as parsers
 use Rattle.clap.specs.declared.error.kind.ErrorKind.{ErrorKind}
 use Rattle.clap.specs.declared.error.kind.ErrorKind.TheVariants.{OutOfMemory}
 use Rattle.clap.specs.declared.parser.matches.ArgMatches.{ArgMatches}
 use Rattle.clap.specs.declared.parser.matches.ArgMatches.TheViews.{out-ArgMatches, out-SubCommand}
 use Rattle.clap.specs.declared.parser.matches.SubCommand.{SubCommand}
 use Rattle.clap.specs.Simple.{subcommand_rows}
-use Rattle.mcv_words.specs.Table.{NumberOption, client_timeout_option, hubs_option, max_clients_option, server_timeout_option, sessions_option, window_option}
-use Rattle.mcv_words.specs.Words.{faults, named, CanRun, IsCheckOf, IsDrawOf, IsFaultOfKind, IsGivenIn, IsJobOf, IsLineFault, IsNumberOf, IsRunOf, IsSpoolOf, MayBeGivenIn, IsMendOf}
+use Rattle.mcv_words.specs.Table.{NumberOption}
+use Rattle.mcv_words.specs.Words.{faults, named, IsCheckOf, IsDrawOf, IsFaultOfKind, IsJobOf, IsLineFault, IsNumberOf, IsRunOf, IsSpoolOf, MayBeGivenIn, IsMendOf}
 use Rattle.mcv_words.specs.declared.words.Job.{Job}
 use Rattle.mcv_words.specs.declared.words.Job.TheVariants.{Legs, Check, Draw, Mend, Run, Spool}
-use Rattle.mcv_words.proofs.OptionValues.{HasAll, HasNumber, MayHaveNumber}
 use Rattle.mcv_words.specs.declared.words.LineFault.{LineFault}
 use Rattle.mcv_words.specs.declared.words.LineFault.TheVariants.{BadLine, Memory, Help, Version}
 
@@ -102,28 +99,6 @@ not_unread {E} G o rows e only none read (inl left_out) = let never : ◌≡◌ 
 not_unread G o rows e only none read (inr given) =
     let number = given.1 in
     only number.0 (Err e) (read number.0 number.1) (number.2, subst (λ (n : ℕ). n < 2 ^ 64) number.3 given.4)
-
--- the value of an option is a number of the range of its parser
-pub given_in : (o : NumberOption) (rows : List Row) → HasNumber o rows → IsGivenIn o rows
-given_in o rows has =
-    let takes = accepts-Accepts false (parsers.Unsigned o.least o.most) has.0 has.2 in
-    (digits_value 10 (without_leading_plus has.0), (has.0, has.1, takes.0, refl), takes.2, takes.3, takes.1)
-
-may_be_given_in : (o : NumberOption) (rows : List Row) → MayHaveNumber o rows → MayBeGivenIn o rows
-may_be_given_in o rows (inl none) = inl none
-may_be_given_in o rows (inr has) = inr (given_in o rows has)
-
-pub can_run : (rows : List Row) → HasAll rows → CanRun rows
-can_run rows has = record {
-  listen = subst (λ (o : Option Text). IsSome o) (sym has.listen.1) refl;
-  spool = subst (λ (o : Option Text). IsSome o) (sym has.spool.1) refl;
-  sessions = may_be_given_in sessions_option rows has.sessions;
-  hubs = given_in hubs_option rows has.hubs;
-  window = given_in window_option rows has.window;
-  server_timeout = may_be_given_in server_timeout_option rows has.server_timeout;
-  client_timeout = may_be_given_in client_timeout_option rows has.client_timeout;
-  max_clients = may_be_given_in max_clients_option rows has.max_clients;
-}
 
 -- the job of `check` that has the values of the words is what they ask for
 pub check_asked : (words : List Text) (rows : List Row) (job : Job) → faults words ≡ [] → named words ≡ Some (codes "check", rows) → IsCheckOf rows job → IsJobOf words job

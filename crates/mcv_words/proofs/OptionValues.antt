@@ -4,7 +4,8 @@
 use Rattle.std.proofs.Common.{◌≡◌, ◌∙◌, ◌⊎◌, inl, inr, ℕ, zero, suc, Bool, cond, not, ◌&&◌, ◌||◌, ◌==◌, arith, true, false, List, [], ◌∷◌, ◌++◌, drop, length, Option, Some, None, ap, codes, fold, is_some, refl, subst, sym, true≢false}
 use Rattle.std.specs.Option.{option_map_or}
 use Rattle.std.specs.Str.{bytes_eq, chars}
-use Rattle.std.specs.Prelude.{IfSome, ⊤, slice_get, encode_utf8, find}
+use Rattle.std.specs.Str.Parse.{digits_value, without_leading_plus}
+use Rattle.std.specs.Prelude.{IfSome, IsSome, ⊤, slice_get, encode_utf8, find}
 use Rattle.std.proofs.lemmas.Bool.{ne_eqb}
 use Rattle.std.proofs.lemmas.Slice.Eq.{bytes_eq-Decides}
 use Rattle.clap.specs.Words.{Kinds, Row, Rule, Shape, Text, built, first_of, one_of}
@@ -18,14 +19,14 @@ use Rattle.clap.specs.Walk.{Held, Outcome, Step, Waiting, Walk, done, waits, pla
 use Rattle.clap.specs.Walk.{after_flag, after_step, arg_by_id, arg_by_index, arg_by_long, arg_by_short, at_row, attached_value, bundle, bundle_met, bundle_step, default_rows, finished, flag_met, has_row, is_empty, is_pending, long_met, long_or_other, more_values, nothing_held, option_met, option_word, plain_word, positional_held, reacted, reading_by, settled, settled_rows, short_met, short_or_plain, takes_several, takes_values, to_positional, used, used_by_id, walk, walk_from, walked, walked_from, with_default, with_values, without, word_met, rows_after}
 use Rattle.clap.specs.Faults.{bundle_fault, bundle_step_fault, check_fault, defaults_fault, entered_fault, flag_word_fault, flags_fault, level_fault, long_fault, option_fault, positional_fault, react_fault, repeat_fault, set_fault, settle_fault, short_fault, step_fault, turn_fault, use_fault, values_fault, walk_fault, word_fault}
 use Rattle.clap.specs.declared.error.kind.ErrorKind.TheVariants.{DisplayHelp, InvalidValue, MissingRequiredArgument, TooManyValues, ValueValidation, WrongNumberOfValues}
-use Rattle.clap.specs.declared.builder.value_parser.ValueParser.{ValueParser}
 use Rattle.clap.specs.declared.builder.value_parser.ValueParser.TheVariants as parsers
 use Rattle.clap.specs.declared.builder.value_parser.Reading.{Reading}
 use Rattle.clap.specs.declared.builder.value_parser.Reading.TheVariants.{AsWritten}
 use Rattle.clap.specs.declared.parser.matches.ValueSource.{ValueSource}
 use Rattle.clap.specs.declared.parser.matches.ValueSource.TheVariants.{CommandLine, DefaultValue}
+use Rattle.clap.proofs.ValueTestLemmas.{accepts-Accepts}
 use Rattle.mcv_words.specs.Table.{NumberOption, at_option, client_timeout_option, hubs_option, max_clients_option, server_timeout_option, sessions_option, window_option}
-use Rattle.mcv_words.specs.Words.{check_app, faults, file_rule, flag_rule, legs_app, mcv_app, named, number_rule, option_rule, run_app, spool_app}
+use Rattle.mcv_words.specs.Words.{CanRun, IsGivenIn, MayBeGivenIn, check_app, faults, file_rule, flag_rule, legs_app, mcv_app, named, number_rule, option_rule, run_app, spool_app}
 use Rattle.mcv_words.proofs.CommandIsNamed.{StopsAtCommand, none_below, none_of, some_kind, stop_of, stops_at_command}
 
 -- ---- rows
@@ -335,19 +336,6 @@ no_value id (r ∷ rs) none =
     let both = row_apart (bytes_eq r.id id) (has_row id rs) none in
     rw both.0 (no_value id rs both.1)
 
--- an option has no value, or one that its parser takes
-abbrev MayHaveValue : List Rule → Text → List Row → Type 0
-MayHaveValue c id rows = (one_of id rows ≡ None) ⊎ ((v : Text) × (one_of id rows ≡ Some v) × Suits c id v)
-
-may_have_value : (c : List Rule) (id : Text) (rows : List Row) → AreGood c rows → MayHaveValue c id rows
-may_have_value c id rows good = go (has_row id rows) refl
-  where
-    go : (b : Bool) → has_row id rows ≡ b → MayHaveValue c id rows
-    go true is =
-        let found = found_value c id rows is good in
-        inr (found.0, found.2, found.3)
-    go false is = inl (no_value id rows is)
-
 added : (id : Text) (change : Row → List Row) (missing rows : List Row) → has_row id rows ≡ false → has_row id missing ≡ true → has_row id (at_row id change missing rows) ≡ true
 added id change missing [] none new = new
 added id change missing (r ∷ rs) none new =
@@ -441,37 +429,25 @@ given_has id (r ∷ rs) given = go (bytes_eq r.id id) refl (λ more. given_has i
     go true is rest = rw is refl
     go false is rest = rw is (rest (rw is at given))
 
-abbrev pub Passes : ValueParser → Text → Type 0
-Passes parser text = accepts false parser text ≡ true
-
--- the option has a value that the parser of its numbers takes
-abbrev pub HasNumber : NumberOption → List Row → Type 0
-HasNumber o rows = (text : Text) × (one_of o.name rows ≡ Some text) × Passes (parsers.Unsigned o.least o.most) text
-
--- it has none, or one of these
-abbrev pub MayHaveNumber : NumberOption → List Row → Type 0
-MayHaveNumber o rows = (one_of o.name rows ≡ None) ⊎ HasNumber o rows
-
-has_number : (c : List Rule) (o : NumberOption) (rows : List Row) → arg_by_id c o.name ≡ Some (number_option o) → AreGood c rows → has_row o.name rows ≡ true → HasNumber o rows
-has_number c o rows known good has =
+-- an option that has a row is given a number of its range
+given_in : (c : List Rule) (o : NumberOption) (rows : List Row) → arg_by_id c o.name ≡ Some (number_option o) → AreGood c rows → has_row o.name rows ≡ true → IsGivenIn o rows
+given_in c o rows known good has =
     let found = found_value c o.name rows has good in
-    (found.0, found.2, rw known at found.3)
+    let takes = accepts-Accepts false (parsers.Unsigned o.least o.most) found.0 (rw known at found.3) in
+    (digits_value 10 (without_leading_plus found.0), (found.0, found.2, takes.0, refl), takes.2, takes.3, takes.1)
 
-may_have_number : (c : List Rule) (o : NumberOption) (rows : List Row) → arg_by_id c o.name ≡ Some (number_option o) → AreGood c rows → MayHaveNumber o rows
-may_have_number c o rows known good = go (has_row o.name rows) refl
+may_be_given_in : (c : List Rule) (o : NumberOption) (rows : List Row) → arg_by_id c o.name ≡ Some (number_option o) → AreGood c rows → MayBeGivenIn o rows
+may_be_given_in c o rows known good = go (has_row o.name rows) refl
   where
-    go : (b : Bool) → has_row o.name rows ≡ b → MayHaveNumber o rows
-    go true is = inr (has_number c o rows known good is)
+    go : (b : Bool) → has_row o.name rows ≡ b → MayBeGivenIn o rows
+    go true is = inr (given_in c o rows known good is)
     go false is = inl (no_value o.name rows is)
 
--- the option of a text has one
-abbrev pub HasText : Text → List Row → Type 0
-HasText name rows = (text : Text) × (first_of name rows ≡ Some text)
-
-has_text : (c : List Rule) (name : Text) (rows : List Row) → AreGood c rows → is_given name rows ≡ true → HasText name rows
+-- the option of a text that is given has one
+has_text : (c : List Rule) (name : Text) (rows : List Row) → AreGood c rows → is_given name rows ≡ true → IsSome (first_of name rows)
 has_text c name rows good given =
     let found = found_value c name rows (given_has name rows given) good in
-    (found.0, found.1)
+    subst (λ (o : Option Text). IsSome o) (sym found.1) refl
 
 -- what words leave at the end, where no fault is found with them
 ended : (s : Shape) → AreTame s s.rules → HaveGoodDefaults s.rules s.rules → (words : List Text) → level_fault s [] nothing_held words false [] ≡ []
@@ -480,24 +456,27 @@ ended s tame suit words none =
     let leaf = leaf_good s tame words none in
     (defaults_good s.rules s.rules (settled s.rules (walk s.rules [] nothing_held words).held).rows suit leaf.0, leaf.1)
 
+defaults_row : (s : Shape) (id : Text) (words : List Text) → bytes_eq id id ≡ true → HasDefault id s.rules → has_row id (rows_after s.rules [] words) ≡ true
+defaults_row s id words itself has = defaulted id s.rules (settled s.rules (walk s.rules [] nothing_held words).held).rows itself has
+
 -- ---- `legs`
 
 abbrev legs : Shape
 legs = built_leaf (inherited (built mcv_app).top legs_app.top)
 
-legs_given : (words : List Text) → level_fault legs [] nothing_held words false [] ≡ [] → HasNumber at_option (rows_after legs.rules [] words)
+legs_given : (words : List Text) → level_fault legs [] nothing_held words false [] ≡ [] → IsGivenIn at_option (rows_after legs.rules [] words)
 legs_given words none =
     let tame : AreTame legs legs.rules = (number_tame legs at_option refl, (help_tame legs, tt)) in
     let suit : HaveGoodDefaults legs.rules legs.rules = ((refl, refl), (tt, tt)) in
     let good = (ended legs tame suit words none).0 in
-    has_number legs.rules at_option (rows_after legs.rules [] words) refl good (defaulted at_option.name legs.rules _ refl (inl (refl, refl)))
+    given_in legs.rules at_option (rows_after legs.rules [] words) refl good (defaults_row legs at_option.name words refl (inl (refl, refl)))
 
 -- ---- `check`
 
 abbrev check : Shape
 check = built_leaf (inherited (built mcv_app).top check_app.top)
 
-check_given : (words : List Text) → level_fault check [] nothing_held words false [] ≡ [] → HasNumber window_option (rows_after check.rules [] words)
+check_given : (words : List Text) → level_fault check [] nothing_held words false [] ≡ [] → IsGivenIn window_option (rows_after check.rules [] words)
 check_given words none =
     let tame : AreTame check check.rules = (
       text_tame check (codes "cert") false refl,
@@ -508,7 +487,7 @@ check_given words none =
     ) in
     let suit : HaveGoodDefaults check.rules check.rules = (tt, ((refl, refl), ((refl, refl), ((refl, refl), ((refl, refl), (tt, tt)))))) in
     let good = (ended check tame suit words none).0 in
-    has_number check.rules window_option (rows_after check.rules [] words) refl good (defaulted window_option.name check.rules _ refl (inr (inl (refl, refl))))
+    given_in check.rules window_option (rows_after check.rules [] words) refl good (defaults_row check window_option.name words refl (inr (inl (refl, refl))))
 
 -- ---- `run`
 
@@ -536,23 +515,12 @@ run_tame = (
   ),
 )
 
--- the values of the options of `run`
-pub record HasAll (rows : List Row) : Type 0 where
-  pub listen : HasText (codes "listen") rows
-  pub spool : HasText (codes "spool") rows
-  pub sessions : MayHaveNumber sessions_option rows
-  pub hubs : HasNumber hubs_option rows
-  pub window : HasNumber window_option rows
-  pub server_timeout : MayHaveNumber server_timeout_option rows
-  pub client_timeout : MayHaveNumber client_timeout_option rows
-  pub max_clients : MayHaveNumber max_clients_option rows
-
 both_given : (a b : Bool) → cond (not a || (not b || false)) (MissingRequiredArgument ∷ []) [] ≡ [] → (a ≡ true) × (b ≡ true)
 both_given true true e = (refl, refl)
 both_given true false e = absurd (some_kind MissingRequiredArgument [] e)
 both_given false b e = absurd (some_kind MissingRequiredArgument [] e)
 
-run_given : (words : List Text) → level_fault run [] nothing_held words false [] ≡ [] → HasAll (rows_after run.rules [] words)
+run_given : (words : List Text) → level_fault run [] nothing_held words false [] ≡ [] → CanRun (rows_after run.rules [] words)
 run_given words none =
     let suit : HaveGoodDefaults run.rules run.rules = (tt, (tt, (tt, ((refl, refl), ((refl, refl), (tt, (tt, (tt, (tt, (tt, tt)))))))))) in
     let end = ended run run_tame suit words none in
@@ -561,12 +529,12 @@ run_given words none =
     record {
       listen = has_text run.rules (codes "listen") rows end.0 both.0;
       spool = has_text run.rules (codes "spool") rows end.0 both.1;
-      sessions = may_have_number run.rules sessions_option rows refl end.0;
-      hubs = has_number run.rules hubs_option rows refl end.0 (defaulted hubs_option.name run.rules _ refl (inr (inr (inr (inl (refl, refl))))));
-      window = has_number run.rules window_option rows refl end.0 (defaulted window_option.name run.rules _ refl (inr (inr (inr (inr (inl (refl, refl)))))));
-      server_timeout = may_have_number run.rules server_timeout_option rows refl end.0;
-      client_timeout = may_have_number run.rules client_timeout_option rows refl end.0;
-      max_clients = may_have_number run.rules max_clients_option rows refl end.0;
+      sessions = may_be_given_in run.rules sessions_option rows refl end.0;
+      hubs = given_in run.rules hubs_option rows refl end.0 (defaults_row run hubs_option.name words refl (inr (inr (inr (inl (refl, refl))))));
+      window = given_in run.rules window_option rows refl end.0 (defaults_row run window_option.name words refl (inr (inr (inr (inr (inl (refl, refl)))))));
+      server_timeout = may_be_given_in run.rules server_timeout_option rows refl end.0;
+      client_timeout = may_be_given_in run.rules client_timeout_option rows refl end.0;
+      max_clients = may_be_given_in run.rules max_clients_option rows refl end.0;
     }
 
 -- ---- `spool`
@@ -582,7 +550,7 @@ one_given : (a : Bool) → cond (not a || false) (MissingRequiredArgument ∷ []
 one_given true e = refl
 one_given false e = absurd (some_kind MissingRequiredArgument [] e)
 
-spool_given : (words : List Text) → level_fault spool [] nothing_held words false [] ≡ [] → HasText (codes "file") (rows_after spool.rules [] words)
+spool_given : (words : List Text) → level_fault spool [] nothing_held words false [] ≡ [] → IsSome (first_of (codes "file") (rows_after spool.rules [] words))
 spool_given words none =
     let tame : AreTame spool spool.rules = (file_tame, (flag_tame spool (codes "all") None refl, (help_tame spool, tt))) in
     let suit : HaveGoodDefaults spool.rules spool.rules = (tt, ((refl, refl), (tt, tt))) in
@@ -610,7 +578,7 @@ no_fault_at : (called : Text) (p : Text × List Text) → p.0 ≡ called → ent
 no_fault_at called p is none = subst (λ (n : Text). entered_fault (built mcv_app) (Some (n, p.1)) ≡ []) is none
 
 at_legs : (stop : Option (Text × List Text)) (rows : List Row) → StopsAtCommand stop → entered (built mcv_app) stop ≡ Some (codes "legs", rows)
-    → entered_fault (built mcv_app) stop ≡ [] → HasNumber at_option rows
+    → entered_fault (built mcv_app) stop ≡ [] → IsGivenIn at_option rows
 at_legs None rows stops at none = absurd (cc)
 at_legs (Some p) rows (inl other) at none = absurd (name_apart (codes "check") (codes "legs") _ rows refl refl (at_name (codes "legs") (codes "check") p rows other at))
 at_legs (Some p) rows (inr (inl other)) at none = absurd (name_apart (codes "draw") (codes "legs") _ rows refl refl (at_name (codes "legs") (codes "draw") p rows other at))
@@ -619,10 +587,10 @@ at_legs (Some p) rows (inr (inr (inr (inr (inl other))))) at none = absurd (name
 at_legs (Some p) rows (inr (inr (inr (inr (inr other))))) at none = absurd (name_apart (codes "spool") (codes "legs") _ rows refl refl (at_name (codes "legs") (codes "spool") p rows other at))
 at_legs (Some p) rows (inr (inr (inl is))) at none =
     let same : rows_after legs.rules [] p.1 ≡ rows = rows_there (codes "legs") (rows_after legs.rules [] p.1) rows (at_name (codes "legs") (codes "legs") p rows is at) in
-    subst (HasNumber at_option) same (legs_given p.1 (no_fault_at (codes "legs") p is none))
+    subst (λ (them : List Row). IsGivenIn at_option them) same (legs_given p.1 (no_fault_at (codes "legs") p is none))
 
 at_check : (stop : Option (Text × List Text)) (rows : List Row) → StopsAtCommand stop → entered (built mcv_app) stop ≡ Some (codes "check", rows)
-    → entered_fault (built mcv_app) stop ≡ [] → HasNumber window_option rows
+    → entered_fault (built mcv_app) stop ≡ [] → IsGivenIn window_option rows
 at_check None rows stops at none = absurd (cc)
 at_check (Some p) rows (inr (inl other)) at none = absurd (name_apart (codes "draw") (codes "check") _ rows refl refl (at_name (codes "check") (codes "draw") p rows other at))
 at_check (Some p) rows (inr (inr (inl other))) at none = absurd (name_apart (codes "legs") (codes "check") _ rows refl refl (at_name (codes "check") (codes "legs") p rows other at))
@@ -631,10 +599,10 @@ at_check (Some p) rows (inr (inr (inr (inr (inl other))))) at none = absurd (nam
 at_check (Some p) rows (inr (inr (inr (inr (inr other))))) at none = absurd (name_apart (codes "spool") (codes "check") _ rows refl refl (at_name (codes "check") (codes "spool") p rows other at))
 at_check (Some p) rows (inl is) at none =
     let same : rows_after check.rules [] p.1 ≡ rows = rows_there (codes "check") (rows_after check.rules [] p.1) rows (at_name (codes "check") (codes "check") p rows is at) in
-    subst (HasNumber window_option) same (check_given p.1 (no_fault_at (codes "check") p is none))
+    subst (λ (them : List Row). IsGivenIn window_option them) same (check_given p.1 (no_fault_at (codes "check") p is none))
 
 at_run : (stop : Option (Text × List Text)) (rows : List Row) → StopsAtCommand stop → entered (built mcv_app) stop ≡ Some (codes "run", rows)
-    → entered_fault (built mcv_app) stop ≡ [] → HasAll rows
+    → entered_fault (built mcv_app) stop ≡ [] → CanRun rows
 at_run None rows stops at none = absurd (cc)
 at_run (Some p) rows (inl other) at none = absurd (name_apart (codes "check") (codes "run") _ rows refl refl (at_name (codes "run") (codes "check") p rows other at))
 at_run (Some p) rows (inr (inl other)) at none = absurd (name_apart (codes "draw") (codes "run") _ rows refl refl (at_name (codes "run") (codes "draw") p rows other at))
@@ -643,10 +611,10 @@ at_run (Some p) rows (inr (inr (inr (inl other)))) at none = absurd (name_apart 
 at_run (Some p) rows (inr (inr (inr (inr (inr other))))) at none = absurd (name_apart (codes "spool") (codes "run") _ rows refl refl (at_name (codes "run") (codes "spool") p rows other at))
 at_run (Some p) rows (inr (inr (inr (inr (inl is))))) at none =
     let same : rows_after run.rules [] p.1 ≡ rows = rows_there (codes "run") (rows_after run.rules [] p.1) rows (at_name (codes "run") (codes "run") p rows is at) in
-    subst HasAll same (run_given p.1 (no_fault_at (codes "run") p is none))
+    subst CanRun same (run_given p.1 (no_fault_at (codes "run") p is none))
 
 at_spool : (stop : Option (Text × List Text)) (rows : List Row) → StopsAtCommand stop → entered (built mcv_app) stop ≡ Some (codes "spool", rows)
-    → entered_fault (built mcv_app) stop ≡ [] → HasText (codes "file") rows
+    → entered_fault (built mcv_app) stop ≡ [] → IsSome (first_of (codes "file") rows)
 at_spool None rows stops at none = absurd (cc)
 at_spool (Some p) rows (inl other) at none = absurd (name_apart (codes "check") (codes "spool") _ rows refl refl (at_name (codes "spool") (codes "check") p rows other at))
 at_spool (Some p) rows (inr (inl other)) at none = absurd (name_apart (codes "draw") (codes "spool") _ rows refl refl (at_name (codes "spool") (codes "draw") p rows other at))
@@ -655,20 +623,20 @@ at_spool (Some p) rows (inr (inr (inr (inl other)))) at none = absurd (name_apar
 at_spool (Some p) rows (inr (inr (inr (inr (inl other))))) at none = absurd (name_apart (codes "run") (codes "spool") _ rows refl refl (at_name (codes "spool") (codes "run") p rows other at))
 at_spool (Some p) rows (inr (inr (inr (inr (inr is))))) at none =
     let same : rows_after spool.rules [] p.1 ≡ rows = rows_there (codes "spool") (rows_after spool.rules [] p.1) rows (at_name (codes "spool") (codes "spool") p rows is at) in
-    subst (HasText (codes "file")) same (spool_given p.1 (no_fault_at (codes "spool") p is none))
+    subst (λ (them : List Row). IsSome (first_of (codes "file") them)) same (spool_given p.1 (no_fault_at (codes "spool") p is none))
 
 -- words that clap takes and that name `legs` give `--at` a value
-pub legs_values : (words : List Text) (rows : List Row) → faults words ≡ [] → named words ≡ Some (codes "legs", rows) → HasNumber at_option rows
+pub legs_values : (words : List Text) (rows : List Row) → faults words ≡ [] → named words ≡ Some (codes "legs", rows) → IsGivenIn at_option rows
 legs_values words rows none is = at_legs (stop_of words) rows (stops_at_command words none) is (none_below words none)
 
--- .. and those that name `check` give `--window` one
-pub check_values : (words : List Text) (rows : List Row) → faults words ≡ [] → named words ≡ Some (codes "check", rows) → HasNumber window_option rows
+-- .. and those that name `check` give `--window` a number of its range
+pub check_values : (words : List Text) (rows : List Row) → faults words ≡ [] → named words ≡ Some (codes "check", rows) → IsGivenIn window_option rows
 check_values words rows none is = at_check (stop_of words) rows (stops_at_command words none) is (none_below words none)
 
 -- .. and those that name `run` give each of its options one
-pub run_values : (words : List Text) (rows : List Row) → faults words ≡ [] → named words ≡ Some (codes "run", rows) → HasAll rows
+pub run_values : (words : List Text) (rows : List Row) → faults words ≡ [] → named words ≡ Some (codes "run", rows) → CanRun rows
 run_values words rows none is = at_run (stop_of words) rows (stops_at_command words none) is (none_below words none)
 
 -- .. and those that name `spool` give its file
-pub spool_values : (words : List Text) (rows : List Row) → faults words ≡ [] → named words ≡ Some (codes "spool", rows) → HasText (codes "file") rows
+pub spool_values : (words : List Text) (rows : List Row) → faults words ≡ [] → named words ≡ Some (codes "spool", rows) → IsSome (first_of (codes "file") rows)
 spool_values words rows none is = at_spool (stop_of words) rows (stops_at_command words none) is (none_below words none)
