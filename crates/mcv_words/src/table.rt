@@ -12,7 +12,7 @@ use clap::{Arg, ArgAction, Command};
 use std::alloc::{AllocError, Global};
 
 /// An option that takes a number.
-#[derive(Clone, Copy, Debug, PartialEq, Eq)]
+#[derive(Clone, Copy, Debug)]
 pub struct NumberRow {
     pub name: &'static str,
     /// What help calls its number.
@@ -25,8 +25,8 @@ pub struct NumberRow {
 }
 
 /// An option that takes a text.
-#[derive(Clone, Copy, Debug, PartialEq, Eq)]
-pub struct TextRow {
+#[derive(Clone, Copy)]
+pub(crate) struct TextRow {
     pub name: &'static str,
     /// What help calls its text.
     pub value: &'static str,
@@ -35,8 +35,8 @@ pub struct TextRow {
 }
 
 /// An option that is given or not, and takes no value.
-#[derive(Clone, Copy, Debug, PartialEq, Eq)]
-pub struct FlagRow {
+#[derive(Clone, Copy)]
+pub(crate) struct FlagRow {
     pub name: &'static str,
     /// Its name behind one hyphen, if it has one.
     pub short: Option<char>,
@@ -44,7 +44,7 @@ pub struct FlagRow {
 }
 
 /// An option.
-#[derive(Clone, Copy, Debug, PartialEq, Eq)]
+#[derive(Clone, Copy)]
 pub(crate) enum OptionRow {
     Number(NumberRow),
     Text(TextRow),

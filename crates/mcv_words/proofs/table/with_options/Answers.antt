@@ -17,10 +17,11 @@ told rows i d app next all inside is before =
     subst (λ (a : App). with_rows a (drop (i + 1) rows) ≡ all) (sym is) after
 
 pub loop-row-preserved : goal.loop-row-preserved
-loop-row-preserved c =
-    (told c.args.rows.now c.loop-row.row-index _ (app_of c.loop-row.command) (app_of c.in_ok-command.command) _ c.loop-row-test.true
-    (c.in_ok-command.ensures.shape c.option.ensures.local ∙ ap (with_rule (app_of c.loop-row.command)) c.option.ensures.rule) c.loop-row.invariant.0,
-    λ none. rw (c.in_ok-command.ensures.globals, c.loop-row.invariant.1 none) c.option.ensures.local)
+loop-row-preserved c = (
+  told c.args.rows.now c.loop-row.row-index _ (app_of c.loop-row.command) (app_of c.in_ok-command.command) _ c.loop-row-test.true
+      (c.in_ok-command.ensures.shape c.option.ensures.local ∙ ap (with_rule (app_of c.loop-row.command)) c.option.ensures.rule) c.loop-row.invariant.0,
+  λ none. rw (c.in_ok-command.ensures.globals, c.loop-row.invariant.1 none) c.option.ensures.local,
+)
 
 pub returns-clause-app : goal.returns-clause-app
 returns-clause-app c = rw (drop_of_length-le c.args.rows.now c.loop-row-test.false) at c.loop-row.invariant.0
