@@ -103,7 +103,6 @@ impl History {
     }
 
     /// Writes an entry at the end. It takes no memory.
-    #[inline(always)]
     pub(crate) fn push(&mut self, entry: Entry)
         requires { vec_len self.old.entries < vec_capacity self.old.entries }
         ensures items { self.new.entries.items ≡ self.old.entries.items ++ entry ∷ [] }
