@@ -79,7 +79,7 @@ impl<'a> fmt::Display for Notice<'a> {
 pub trait Notices: Drop {
     fn note(&mut self, notice: Notice<'_>);
 
-    /// Shows what is left to be said of an earlier second. It is called about once a second.
+    /// Shows what is left to be said of an earlier second. It is called some times a second.
     fn catch_up(&mut self) {}
 }
 

@@ -68,12 +68,8 @@ impl<R: Clock + Drop, N: Notices> Watch for SystemWatch<R, N> {
     }
 
     fn pause(&mut self) {
-        thread::sleep(&self.rt, Duration::from_secs(1));
-        self.notices.catch_up();
-    }
-
-    fn rest(&mut self) {
         thread::sleep(&self.rt, Duration::from_millis(100));
+        self.notices.catch_up();
     }
 
     fn note_refusing(&mut self, fault: SpoolFault) {

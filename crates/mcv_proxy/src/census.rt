@@ -7,9 +7,6 @@ use std::alloc::{AllocError, Global};
 use std::sync::Wait;
 use std::sync::ledger::Ledger;
 
-/// How often in a second it is looked whether the count is to end.
-const RESTS: u32 = 10;
-
 /// What counts the legs that wait at a hub.
 #[derive(Drop)]
 pub struct Census<W: Watch> {
@@ -28,16 +25,6 @@ fn waiting<B: HubLedger, T: Ledger, R: Wait>(
 ) -> Result<Vec<usize>, AllocError> {
     let guard = hub.lock(rt, pass);
     guard.core().waiting(alloc)
-}
-
-/// Waits for a second, or until the count is to end.
-fn rest<W: Watch>(watch: &mut W, ends: &Ends) {
-    for _rest in 0..RESTS {
-        if ends.are_asked() {
-            return;
-        }
-        watch.rest();
-    }
 }
 
 /// Counts the legs that wait at a hub about once a second, until it is to end. Where there is no memory for a count the next
@@ -61,6 +48,6 @@ pub fn serve_census<B: HubLedger, T: Ledger, W: Watch, R: Wait>(
         if let Ok(counts) = waiting(rt, alloc, hub, &mut pass) {
             watch.note_waiting(number, counts.as_slice());
         }
-        rest(&mut watch, ends);
+        ends.rest(&mut watch);
     }
 }

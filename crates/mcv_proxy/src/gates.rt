@@ -87,13 +87,8 @@ pub trait Watch: Drop {
     /// Seconds since 1970.
     fn moment(&mut self) -> Moment;
 
-    /// Waits for a second.
+    /// Waits for a tenth of a second.
     fn pause(&mut self);
-
-    /// Waits for a tenth of a second; where there is nothing shorter, as `pause` does.
-    fn rest(&mut self) {
-        self.pause();
-    }
 
     /// For how long a spool that has refused a record isn't asked again.
     fn respite(&self) -> Duration {
