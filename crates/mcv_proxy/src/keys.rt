@@ -57,7 +57,7 @@ fn routed_key<'a>(routes: &Routes, word: &'a [u8]) -> Result<RoutedKey<'a>, Core
 
 /// Whether the call of a reply asked this operation of this route and rest.
 fn has_asked(taken: &TakenReply, op: Op, routed: RoutedKey<'_>) -> bool
-    ensures { (result ≡ true) ↔ ((taken.now.asked.op ≡ op) × (taken.now.asked.route ≡ routed.route) × (taken.now.asked.rest ≡ routed.rest.now)) }
+    ensures { (result ≡ true) ↔ ((taken.now.asked.op ≡ op) × (taken.now.asked.route ≡ routed.entry.route) × (taken.now.asked.rest ≡ routed.entry.rest.now)) }
 {
     taken.op() == op && taken.route() == routed.route && taken.rest().as_bytes() == routed.rest
 }
