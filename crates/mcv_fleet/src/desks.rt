@@ -105,8 +105,13 @@ impl<'a, F: HubNames, G: Names, L: Link, W: Watch, R: Wait + Clock> HubsDesk<'a,
     fn note_at(&mut self, hub: usize)
         requires { hub < 8 }
     {
-        self.note_load_at(hub);
-        if let Some(shortage) = self.desks.outlook_at(hub).shortage {
+        let Outlook {
+            chapter,
+            load,
+            shortage,
+        } = self.desks.outlook_at(hub);
+        self.watch.note_load(hub, chapter, load);
+        if let Some(shortage) = shortage {
             self.watch.note_full(hub, shortage);
         }
     }
