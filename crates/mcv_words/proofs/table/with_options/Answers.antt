@@ -1,6 +1,5 @@
-use Rattle.std.proofs.Common.{◌≡◌, ◌∙◌, ◌+◌, ◌<◌, ℕ, List, add-one, ap, arith, drop, drop-cons, drop_of_length-le, false, fold, get_or, length, map, subst, sym}
+use Rattle.std.proofs.Common.{◌≡◌, ◌∙◌, ◌+◌, ◌<◌, ℕ, List, add-one, ap, drop, drop-cons, drop_of_length-le, fold, get_or, length, map, subst, sym}
 use Rattle.clap.specs.Words.{App, app_of, with_rule}
-use Rattle.clap.specs.declared.builder.command.Command.TheViews.{out-Command as fields_of}
 use Rattle.mcv_words.specs.declared.table.OptionRow.{OptionRow}
 use Rattle.mcv_words.specs.Words.{row_rule}
 use Rattle.mcv_words.proofs.table.with_options.Goals as goal
