@@ -1,6 +1,5 @@
 -- The hub of a key, and what a desk answers where all keys of a request have one.
 use Rattle.std.proofs.Common.{◌≡◌, ◌∙◌, ◌++◌, ◌<◌, ◌≤◌, ℕ, zero, suc, List, [], ◌∷◌, Option, None, Some, Result, Ok, Err, inl, inr, ap, arith, get_or, length, map, refl, subst, sym}
-use Rattle.std.proofs.Math.Nat.{mod-one}
 use Rattle.std.specs.Prelude.{OnOk, option_map, slice_get}
 use Rattle.std.specs.List.{All}
 use Rattle.std.proofs.lemmas.List.Elements.{All-cons, All-get_or, All-nil, All-push}
@@ -19,7 +18,6 @@ use Rattle.mcv_core.specs.declared.fault.CoreFault.TheVariants.{BadKey}
 use Rattle.mcv_hub.specs.declared.seat.TakenReply.{TakenReply}
 use Rattle.mcv_hubs.specs.Choice.{IsHubOf, IsRestOf, hub_number, keyed, unkeyed}
 use Rattle.mcv_hubs.specs.declared.hubs.HubCall.{HubCall}
-use Rattle.mcv_pools.specs.Hash.{fnv}
 use Rattle.mcv_route.specs.Routes.{RoutesValue}
 use Rattle.mcv_session.specs.Desk.{keys_of}
 use Rattle.mcv_session.specs.declared.desk.DeskFault.{DeskFault}
@@ -27,10 +25,6 @@ use Rattle.mcv_text.specs.Request.{RequestValue, asking, version, quit, request_
 use Rattle.mcv_proxy.specs.Desk.{IsFor, IsReplyFor, IsUntaken, WasAsked, WasTaken, desk_fault, word_at}
 use Rattle.mcv_fleet.specs.Desks.{AreBegunAt, AreForKeys, AreOfHubs, AsksHubs, HaveHub, IsBegunAt, IsForOf, IsKeyRefused, WasTakenOf, untaken}
 use Rattle.mcv_proxy.proofs.Routed.{NoRestReadsEmpty, OneReading, unrouted_is_not_routed}
-
--- where there is one hub all keys have it
-pub only_hub : (hubs : ℕ) → hubs ≡ 1 → (request : RequestValue) → HaveHub hubs request 0
-only_hub hubs e request = λ r key t f. subst (λ n. hub_number n t.asked.rest ≡ 0) (sym e) (mod-one (fnv t.asked.rest))
 
 same_some : {A : Type 0} {x y : A} → Some x ≡ Some y → x ≡ y
 same_some e = cc
