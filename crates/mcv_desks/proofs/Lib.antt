@@ -1,0 +1,2 @@
+pub mod KeysOfHubs
+pub mod OneKeys
