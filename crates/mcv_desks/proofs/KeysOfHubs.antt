@@ -73,11 +73,11 @@ all_have_hub one empty hubs request hub count each all r key t f = let within = 
 
 -- ---- what one hub answers for all of them
 
-all_by_index : {X : Type 0} (P : X → Type 0) (xs : List X) → ((k : ℕ) (x : X) → slice_get xs k ≡ Some x → P x) → All P xs
+pub all_by_index : {X : Type 0} (P : X → Type 0) (xs : List X) → ((k : ℕ) (x : X) → slice_get xs k ≡ Some x → P x) → All P xs
 all_by_index P [] h = All-nil P
 all_by_index P (x ∷ xs) h = All-cons P x xs (h 0 x refl) (all_by_index P xs (λ k y e. h (suc k) y e))
 
-at_index : {X : Type 0} (P : X → Type 0) (xs : List X) (k : ℕ) (x : X) → slice_get xs k ≡ Some x → All P xs → P x
+pub at_index : {X : Type 0} (P : X → Type 0) (xs : List X) (k : ℕ) (x : X) → slice_get xs k ≡ Some x → All P xs → P x
 at_index P xs k x e all = subst P (get_or_from_slice_get xs k x x e) (All-get_or P xs k x (slice_get_within xs k x e) all)
 
 module _ (opened_of : ℕ → CoreView) (hubs hub : ℕ) (request : RequestValue) (there : hub < hubs) (have : HaveHub hubs request hub) where

@@ -1,57 +1,134 @@
 //! The desks of a loop at all hubs.
 
+ghost use Rattle.std.specs.Prelude.{◌≡◌, ◌<◌, ℕ, IfOk, IfSome};
+ghost use Rattle.std.specs.Arc.{arc_value};
+ghost use Rattle.mcv_desks.specs.Asked.{AreSameMixed, AreSomeLeft, IsAnswerOf, IsNextKey, mixed_at};
+ghost use Rattle.mcv_desks.specs.Desks.{AsksHubs};
+ghost use Rattle.mcv_desks.specs.Mixed.{IsKeyAnswer};
+ghost use Rattle.mcv_session.specs.Desk.{answer_value};
+ghost use Rattle.mcv_text.specs.Request.{request_value};
+
+use crate::hub_desks::HubDesks;
 use crate::mixed::Mixed;
 use crate::one_hub::one_hub;
-use mcv_base::{Request, ServerId};
-use mcv_hub::{Hub, HubLedger, Pass, Receipt};
-use mcv_hubs::{At, HubChoice, HubNames, Hubs, Names, Seats};
+use mcv_base::{Part, Request, ServerId};
+use mcv_hub::{Pass, Receipt};
+use mcv_hubs::{HubChoice, HubNames, Hubs, MOST_HUBS, Names, Seats};
 use mcv_session::DeskFault;
-use mcv_turn::{Answer, Asker, Came, Gives, LoopDesk};
+use mcv_turn::{Answer, Asker, Came, Gives};
 use slab::Slab;
 use std::alloc::{AllocError, Global};
-use std::sync::ledger::Ledger;
+use std::marker::Model;
 use std::sync::{Arc, Wait};
 
-/// How many hubs there are.
-const HUBS: usize = 8;
+/// More answers than come.
+const TURNS: u64 = u64::MAX;
 
-/// A desk at each hub, and the requests whose keys have several hubs.
+/// A desk at each hub, and the requests whose keys have several hubs. Clauses see how many hubs have keys.
 #[derive(Drop)]
 pub struct LoopDesks<'a, F: HubNames, G: Names> {
     alloc: Global,
     choice: &'a HubChoice,
-    mixed: Slab<Mixed>,
-    desk0: LoopDesk<'a, At<F, 0>, At<G, 0>>,
-    desk1: LoopDesk<'a, At<F, 1>, At<G, 1>>,
-    desk2: LoopDesk<'a, At<F, 2>, At<G, 2>>,
-    desk3: LoopDesk<'a, At<F, 3>, At<G, 3>>,
-    desk4: LoopDesk<'a, At<F, 4>, At<G, 4>>,
-    desk5: LoopDesk<'a, At<F, 5>, At<G, 5>>,
-    desk6: LoopDesk<'a, At<F, 6>, At<G, 6>>,
-    desk7: LoopDesk<'a, At<F, 7>, At<G, 7>>,
+    mixed: Slab<Mixed<F>>,
+    /// The serial number of the next one of these.
+    next: u64,
+    desks: HubDesks<'a, F, G>,
 }
 
-/// One turn at one hub, under its lock.
-fn turn_at<B: HubLedger, T: Ledger, R: Wait>(
-    rt: &R,
-    hub: &Hub<B, T>,
-    pass: &mut Pass,
-    desk: &mut LoopDesk<'_, B, T>,
-    came: Came,
-    gives: &mut Gives,
-) {
-    let mut guard = hub.lock(rt, pass);
-    desk.turn(&mut guard, came, gives);
+impl<'a, F: HubNames, G: Names> Model for LoopDesks<'a, F, G> {
+    ghost use Rattle.std.specs.Prelude.{ℕ};
+    ghost use Rattle.std.specs.Coded.{coded_ℕ};
+    ghost use Rattle.mcv_desks.specs.Asked.{AreDesks, mixed_at, questions_at};
+
+    ghost Value = { ℕ };
+
+    ghost coded = { coded_ℕ };
+
+    ghost view = { λ d. d.choice.now };
+
+    ghost invariant = { λ d. AreDesks d.choice.now d.next (mixed_at d.mixed) (questions_at d.desks) };
 }
 
-/// These receipts, and those of one more desk. An error is that memory ran out.
-fn with_more(
-    all: Result<Vec<Receipt>, AllocError>,
-    other: Vec<Receipt>,
-) -> Result<Vec<Receipt>, AllocError> {
-    let mut all = all?;
-    all.extend_from_slice(other.as_slice())?;
-    Ok(all)
+/// The next key that is to be asked of a request of several hubs.
+#[derive(Drop)]
+struct NextKey {
+    hub: usize,
+    /// The serial number of the request.
+    serial: u64,
+    key: usize,
+    /// What is asked for it.
+    alone: Arc<Request>,
+}
+
+/// The next key that is to be asked of the request of this number; None where there is none.
+fn next_key<F: HubNames>(
+    choice: &HubChoice,
+    mixed: &mut Slab<Mixed<F>>,
+    number: usize,
+) -> Option<NextKey>
+    ensures same { AreSameMixed mixed.old mixed.new }
+    ensures key { IfSome result (λ k. IsNextKey choice.now (mixed_at mixed.old number) k) }
+    ensures there { IfSome result (λ k. k.hub < 8) }
+{
+    let Some(one) = mixed.get_mut(number) else {
+        return None;
+    };
+    let Some(alone) = one.next_key() else {
+        return None;
+    };
+    Some(NextKey {
+        hub: choice.hub_of_key(one.request(), alone.key),
+        serial: one.serial(),
+        key: alone.key,
+        alone: alone.request,
+    })
+}
+
+/// For want of memory a key of the request of this number isn't asked.
+fn refuse_at<F: HubNames>(mixed: &mut Slab<Mixed<F>>, number: usize)
+    ensures { AreSameMixed mixed.old mixed.new }
+{
+    let Some(one) = mixed.get_mut(number) else {
+        return;
+    };
+    one.refuse(DeskFault::Memory);
+}
+
+/// A key of the request of this number is answered so, if that has this serial number.
+fn put_at<F: HubNames>(
+    mixed: &mut Slab<Mixed<F>>,
+    number: usize,
+    serial: u64,
+    key: usize,
+    outcome: Result<Vec<Part>, DeskFault>,
+)
+    requires { IfSome (mixed_at mixed.old number) (λ q. q.serial ≡ serial → IsKeyAnswer F.opened_of q key (answer_value outcome)) }
+    ensures { AreSameMixed mixed.old mixed.new }
+{
+    let Some(one) = mixed.get_mut(number) else {
+        return;
+    };
+    if one.serial() != serial {
+        return;
+    }
+    one.put(key, outcome);
+}
+
+/// Takes the request of this number away, if it is done: its answer.
+fn take_done<F: HubNames>(mixed: &mut Slab<Mixed<F>>, number: usize) -> Option<Answer>
+    ensures answer { IfSome result (λ a. IsAnswerOf F.opened_of (mixed_at mixed.old number) a.asker (request_value (arc_value a.request)) (answer_value a.outcome)) }
+    ensures left { AreSomeLeft (mixed_at mixed.old) (mixed_at mixed.new) }
+{
+    let Some(one) = mixed.get(number) else {
+        return None;
+    };
+    if !one.is_done() {
+        return None;
+    }
+    let Some(done) = mixed.try_remove(number) else {
+        return None;
+    };
+    Some(done.into_answer())
 }
 
 impl<'a, F: HubNames, G: Names> LoopDesks<'a, F, G> {
@@ -60,132 +137,140 @@ impl<'a, F: HubNames, G: Names> LoopDesks<'a, F, G> {
         alloc: Global,
         hubs: &'a Hubs<F, G>,
         seats: Seats<F, G>,
-    ) -> Result<LoopDesks<'a, F, G>, AllocError> {
-        let Seats {
-            seat0,
-            seat1,
-            seat2,
-            seat3,
-            seat4,
-            seat5,
-            seat6,
-            seat7,
-        } = seats;
+    ) -> Result<LoopDesks<'a, F, G>, AllocError>
+        ensures { IfOk result (λ d. d ≡ hubs.now.choice) }
+    {
+        let desks = HubDesks::new(alloc, hubs, seats)?;
+        let mixed = Slab::new(alloc);
         Ok(LoopDesks {
             alloc,
             choice: &hubs.choice,
-            mixed: Slab::new(alloc),
-            desk0: LoopDesk::new(alloc, &hubs.hub0, seat0)?,
-            desk1: LoopDesk::new(alloc, &hubs.hub1, seat1)?,
-            desk2: LoopDesk::new(alloc, &hubs.hub2, seat2)?,
-            desk3: LoopDesk::new(alloc, &hubs.hub3, seat3)?,
-            desk4: LoopDesk::new(alloc, &hubs.hub4, seat4)?,
-            desk5: LoopDesk::new(alloc, &hubs.hub5, seat5)?,
-            desk6: LoopDesk::new(alloc, &hubs.hub6, seat6)?,
-            desk7: LoopDesk::new(alloc, &hubs.hub7, seat7)?,
+            mixed,
+            next: 0,
+            desks,
         })
     }
 
-    /// Takes a request of a session: the next turns begin calls for its keys at their hubs. An error is that memory ran out, and
-    /// nothing was asked then.
-    pub fn ask(&mut self, session: u64, request: Arc<Request>) -> Result<(), AllocError> {
-        if let Some(hub) = one_hub(self.choice, &request) {
-            return self.ask_at(hub, Asker::Session(session), request);
+    /// Takes a request of a session: the next turns begin calls for its keys at their hubs. An error is that memory ran out, or that
+    /// 2^64 - 1 requests of several hubs were asked, and nothing was asked then.
+    pub fn ask(&mut self, session: u64, request: Arc<Request>) -> Result<(), AllocError>
+        ensures { self.new ≡ self.old }
+    {
+        match one_hub(self.choice, &request) {
+            Some(hub) => self.desks.ask_at(hub, Asker::Session(session), request),
+            None => self.ask_mixed(session, request),
         }
-        let mixed = Mixed::new(self.alloc, session, request)?;
+    }
+
+    /// Takes a request whose keys have several hubs.
+    fn ask_mixed(&mut self, session: u64, request: Arc<Request>) -> Result<(), AllocError>
+        ensures { self.new ≡ self.old }
+    {
+        let Some(next) = self.next.checked_add(1) else {
+            return Err(AllocError);
+        };
+        let hubs = self.choice.hubs();
+        let mixed = Mixed::new(self.alloc, self.next, session, hubs, request)?;
         let number = self.mixed.insert(mixed)?;
+        self.next = next;
         self.ask_keys(number);
         Ok(())
     }
 
-    /// Asks the desk at the hub of this number.
-    fn ask_at(
-        &mut self,
-        hub: usize,
-        asker: Asker,
-        request: Arc<Request>,
-    ) -> Result<(), AllocError> {
-        match hub {
-            0 => self.desk0.ask(asker, request),
-            1 => self.desk1.ask(asker, request),
-            2 => self.desk2.ask(asker, request),
-            3 => self.desk3.ask(asker, request),
-            4 => self.desk4.ask(asker, request),
-            5 => self.desk5.ask(asker, request),
-            6 => self.desk6.ask(asker, request),
-            _ => self.desk7.ask(asker, request),
-        }
-    }
-
     /// Asks further keys of a request of several hubs, each alone at its hub.
-    fn ask_keys(&mut self, number: usize) {
-        for _key in 0..u64::MAX {
-            let Some(mixed) = self.mixed.get_mut(number) else {
-                return;
-            };
-            let Some((key, alone)) = mixed.next_key() else {
-                return;
-            };
-            let hub = self.choice.hub_of_key(mixed.request(), key);
-            let asker = Asker::Key {
-                request: number,
-                key,
-            };
-            if self.ask_at(hub, asker, alone).is_err() {
-                self.put(number, key, Err(DeskFault::Memory));
+    fn ask_keys(&mut self, number: usize)
+        ensures { self.new ≡ self.old }
+    {
+        for _key in 0..TURNS {
+            if !self.ask_key(number) {
                 return;
             }
         }
     }
 
-    /// A key of a request of several hubs was answered.
-    fn put(&mut self, number: usize, key: usize, outcome: Result<Vec<mcv_base::Part>, DeskFault>) {
-        if let Some(mixed) = self.mixed.get_mut(number) {
-            mixed.put(key, outcome);
+    /// Asks the next key of a request of several hubs alone at its hub. Whether a further one may be asked.
+    fn ask_key(&mut self, number: usize) -> bool
+        ensures { self.new ≡ self.old }
+    {
+        let Some(next) = next_key(self.choice, &mut self.mixed, number) else {
+            return false;
+        };
+        let asker = Asker::Key {
+            request: number,
+            serial: next.serial,
+            key: next.key,
+        };
+        let asked = self.desks.ask_at(next.hub, asker, next.alone);
+        if asked.is_ok() {
+            return true;
         }
+        refuse_at(&mut self.mixed, number);
+        false
     }
 
-    /// The next answer of the desk at the hub of this number.
-    fn answer_at(&mut self, hub: usize) -> Option<Answer> {
-        match hub {
-            0 => self.desk0.answer(),
-            1 => self.desk1.answer(),
-            2 => self.desk2.answer(),
-            3 => self.desk3.answer(),
-            4 => self.desk4.answer(),
-            5 => self.desk5.answer(),
-            6 => self.desk6.answer(),
-            _ => self.desk7.answer(),
-        }
-    }
-
-    /// The next answer to a request of a session; None where none is there.
-    pub fn answer(&mut self) -> Option<Answer> {
-        for hub in 0..HUBS {
-            for _answer in 0..u64::MAX {
-                let Some(answer) = self.answer_at(hub) else {
-                    break;
-                };
-                if let Some(answer) = self.joined(answer) {
-                    return Some(answer);
-                }
+    /// The next answer to a request of a session, from replies of the hubs of its keys, in the order of the keys; None where none is
+    /// there.
+    pub fn answer(&mut self) -> Option<Answer>
+        ensures same { self.new ≡ self.old }
+        ensures asker { IfSome result (λ a. (session : ℕ) × (a.asker ≡ Asker.Session session)) }
+        ensures answer { IfSome result (λ a. AsksHubs F.opened_of self.old (request_value (arc_value a.request)) (answer_value a.outcome)) }
+    {
+        for hub in 0..MOST_HUBS {
+            if let Some(answer) = self.answer_of(hub) {
+                return Some(answer);
             }
         }
         None
     }
 
-    /// The answer to a session; None where it is for one key, and others are missing.
-    fn joined(&mut self, answer: Answer) -> Option<Answer> {
-        let Asker::Key { request, key } = answer.asker else {
-            return Some(answer);
-        };
-        self.put(request, key, answer.outcome);
-        self.ask_keys(request);
-        if !self.mixed.get(request)?.is_done() {
-            return None;
+    /// The next answer to a request of a session that the desk at the hub of this number gives.
+    fn answer_of(&mut self, hub: usize) -> Option<Answer>
+        requires { hub < 8 }
+        ensures same { self.new ≡ self.old }
+        ensures asker { IfSome result (λ a. (session : ℕ) × (a.asker ≡ Asker.Session session)) }
+        ensures answer { IfSome result (λ a. AsksHubs F.opened_of self.old (request_value (arc_value a.request)) (answer_value a.outcome)) }
+    {
+        for _answer in 0..TURNS {
+            let (was_there, answer) = self.next_of(hub);
+            if answer.is_some() || !was_there {
+                return answer;
+            }
         }
-        let mixed = self.mixed.try_remove(request)?;
-        Some(mixed.into_answer())
+        None
+    }
+
+    /// Takes the next answer of the desk at the hub of this number. Whether there was one; and what is answered to a session by it,
+    /// which is nothing where it is for one key, and others are missing.
+    fn next_of(&mut self, hub: usize) -> (bool, Option<Answer>)
+        requires { hub < 8 }
+        ensures same { self.new ≡ self.old }
+        ensures asker { IfSome result.1 (λ a. (session : ℕ) × (a.asker ≡ Asker.Session session)) }
+        ensures answer { IfSome result.1 (λ a. AsksHubs F.opened_of self.old (request_value (arc_value a.request)) (answer_value a.outcome)) }
+    {
+        let Some(answer) = self.desks.answer_at(hub) else {
+            return (false, None);
+        };
+        match answer.asker {
+            Asker::Session(_) => (true, Some(answer)),
+            Asker::Key {
+                request,
+                serial,
+                key,
+            } => {
+                put_at(&mut self.mixed, request, serial, key, answer.outcome);
+                self.ask_keys(request);
+                (true, self.take_done(request))
+            }
+        }
+    }
+
+    /// Takes the request of several hubs of this number away, if it is done: its answer.
+    fn take_done(&mut self, number: usize) -> Option<Answer>
+        ensures same { self.new ≡ self.old }
+        ensures asker { IfSome result (λ a. (session : ℕ) × (a.asker ≡ Asker.Session session)) }
+        ensures answer { IfSome result (λ a. AsksHubs F.opened_of self.old (request_value (arc_value a.request)) (answer_value a.outcome)) }
+    {
+        take_done(&mut self.mixed, number)
     }
 
     /// One turn at the hub of this number, under its lock.
@@ -197,98 +282,30 @@ impl<'a, F: HubNames, G: Names> LoopDesks<'a, F, G> {
         hub: usize,
         came: Came,
         gives: &mut Gives,
-    ) {
-        match hub {
-            0 => turn_at(rt, &hubs.hub0, pass, &mut self.desk0, came, gives),
-            1 => turn_at(rt, &hubs.hub1, pass, &mut self.desk1, came, gives),
-            2 => turn_at(rt, &hubs.hub2, pass, &mut self.desk2, came, gives),
-            3 => turn_at(rt, &hubs.hub3, pass, &mut self.desk3, came, gives),
-            4 => turn_at(rt, &hubs.hub4, pass, &mut self.desk4, came, gives),
-            5 => turn_at(rt, &hubs.hub5, pass, &mut self.desk5, came, gives),
-            6 => turn_at(rt, &hubs.hub6, pass, &mut self.desk6, came, gives),
-            _ => turn_at(rt, &hubs.hub7, pass, &mut self.desk7, came, gives),
-        }
+    )
+        ensures { self.new ≡ self.old }
+    {
+        self.desks.turn(rt, hubs, pass, hub, came, gives);
     }
 
     /// Whether requests were asked at the hub of this number since its last turn.
     pub fn is_asked(&self, hub: usize) -> bool {
-        match hub {
-            0 => self.desk0.is_asked(),
-            1 => self.desk1.is_asked(),
-            2 => self.desk2.is_asked(),
-            3 => self.desk3.is_asked(),
-            4 => self.desk4.is_asked(),
-            5 => self.desk5.is_asked(),
-            6 => self.desk6.is_asked(),
-            _ => self.desk7.is_asked(),
-        }
+        self.desks.is_asked(hub)
     }
 
     /// Whether requests wait to begin at the hub of this number.
     pub fn waits(&self, hub: usize) -> bool {
-        match hub {
-            0 => self.desk0.waits(),
-            1 => self.desk1.waits(),
-            2 => self.desk2.waits(),
-            3 => self.desk3.waits(),
-            4 => self.desk4.waits(),
-            5 => self.desk5.waits(),
-            6 => self.desk6.waits(),
-            _ => self.desk7.waits(),
-        }
+        self.desks.waits(hub)
     }
 
     /// Whether the server was marked in the last turn at the hub of this number.
     pub fn is_marked(&self, hub: usize, server: ServerId) -> bool {
-        match hub {
-            0 => self.desk0.is_marked(server),
-            1 => self.desk1.is_marked(server),
-            2 => self.desk2.is_marked(server),
-            3 => self.desk3.is_marked(server),
-            4 => self.desk4.is_marked(server),
-            5 => self.desk5.is_marked(server),
-            6 => self.desk6.is_marked(server),
-            _ => self.desk7.is_marked(server),
-        }
+        self.desks.is_marked(hub, server)
     }
 
     /// The seats, and the receipts that were kept. An error is that there was no memory for all receipts.
     pub fn into_parts(self) -> (Seats<F, G>, Result<Vec<Receipt>, AllocError>) {
-        let LoopDesks {
-            desk0,
-            desk1,
-            desk2,
-            desk3,
-            desk4,
-            desk5,
-            desk6,
-            desk7,
-            ..
-        } = self;
-        let (seat0, receipts0) = desk0.into_parts();
-        let (seat1, receipts1) = desk1.into_parts();
-        let (seat2, receipts2) = desk2.into_parts();
-        let (seat3, receipts3) = desk3.into_parts();
-        let (seat4, receipts4) = desk4.into_parts();
-        let (seat5, receipts5) = desk5.into_parts();
-        let (seat6, receipts6) = desk6.into_parts();
-        let (seat7, receipts7) = desk7.into_parts();
-        let seats = Seats {
-            seat0,
-            seat1,
-            seat2,
-            seat3,
-            seat4,
-            seat5,
-            seat6,
-            seat7,
-        };
-        let receipts = with_more(Ok(receipts0), receipts1);
-        let receipts = with_more(receipts, receipts2);
-        let receipts = with_more(receipts, receipts3);
-        let receipts = with_more(receipts, receipts4);
-        let receipts = with_more(receipts, receipts5);
-        let receipts = with_more(receipts, receipts6);
-        (seats, with_more(receipts, receipts7))
+        let LoopDesks { desks, .. } = self;
+        desks.into_parts()
     }
 }

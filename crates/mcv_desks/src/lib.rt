@@ -5,6 +5,7 @@
 #![tactic(auto)]
 
 mod desks;
+mod hub_desks;
 mod mixed;
 mod one_hub;
 mod one_key;

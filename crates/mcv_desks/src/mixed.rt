@@ -1,19 +1,33 @@
 //! A request whose keys have several hubs.
 
+ghost use Rattle.std.specs.Prelude.{◌≡◌, ◌≤◌, ℕ, [], false, true, None, Some, Option, Err, List, Ok, IfErr, IfOk, IfSome, map, slice_get, vec_capacity, vec_len};
+ghost use Rattle.std.specs.Arc.{arc_value};
+ghost use Rattle.mcv_base.specs.declared.reply.Part.{Part as ReplyPart};
+ghost use Rattle.mcv_desks.specs.Desks.{AsksHubs};
+ghost use Rattle.mcv_desks.specs.Mixed.{IsDone, IsFilled, IsKeyAlone, IsKeyAnswer};
+ghost use Rattle.mcv_session.specs.Desk.{answer_value};
+ghost use Rattle.mcv_text.specs.Request.{request_value};
+
 use crate::one_key::requests_of_keys;
-use mcv_base::{Part, Request};
+use mcv_base::{Part, Request, key_words_have_one_reading};
+use mcv_hubs::HubNames;
 use mcv_session::DeskFault;
 use mcv_turn::{Answer, Asker};
 use std::alloc::{AllocError, Global};
+use std::marker::{Model, PhantomData};
 use std::sync::Arc;
 
 /// The most keys of one request that are asked at a time.
 const MOST_OPEN: usize = 1024;
 
-/// A request of a session of which each key is asked alone.
+/// A request of a session of which each key is asked alone, at the hubs that `F` stands for. Clauses see the request, how many of its
+/// keys are answered, and why one has no reply.
 #[derive(Drop)]
-pub(crate) struct Mixed {
+pub(crate) struct Mixed<F: HubNames> {
+    serial: u64,
     session: u64,
+    /// Among how many hubs its keys are.
+    hubs: usize,
     request: Arc<Request>,
     of_keys: Vec<Arc<Request>>,
     /// The reply for each key that has one, by its number.
@@ -22,55 +36,154 @@ pub(crate) struct Mixed {
     parts: Vec<Part>,
     /// How many first keys were asked.
     asked: usize,
-    /// How many of these aren't answered yet.
-    open: usize,
+    /// How many of these are answered.
+    answered: usize,
     /// Why a key has no reply.
     fault: Option<DeskFault>,
+    names: PhantomData<F>,
 }
 
-impl Mixed {
-    /// A request of which no key was asked yet.
+impl<F: HubNames> Model for Mixed<F> {
+    ghost use Rattle.std.specs.Arc.{arc_value};
+    ghost use Rattle.mcv_desks.specs.Mixed.{IsMixed, MixedView};
+
+    ghost Value = { MixedView };
+
+    ghost view = { λ m. record { request = record { serial = m.serial; session = m.session; hubs = m.hubs; asked = arc_value m.request }; answered = m.answered; fault = m.fault } };
+
+    ghost invariant = { λ m. IsMixed F.opened_of (record { serial = m.serial; session = m.session; hubs = m.hubs; asked = arc_value m.request }) m.of_keys.items m.replies.items m.parts m.answered m.fault };
+}
+
+/// What is asked for one key of a request.
+#[derive(Drop)]
+pub(crate) struct KeyAlone {
+    /// The number of the key, from 0.
+    pub(crate) key: usize,
+    pub(crate) request: Arc<Request>,
+}
+
+/// So many places without a reply.
+fn no_replies(alloc: Global, count: usize) -> Result<Vec<Option<Part>>, AllocError>
+    ensures many { IfOk result (λ v. vec_len v ≡ count) }
+    ensures none { IfOk result (λ v. (key : ℕ) (reply : Option ReplyPart) → slice_get v.items key ≡ Some reply → reply ≡ None) }
+{
+    let mut replies = Vec::with_capacity(alloc, count)?;
+    for _key in 0..count {
+        replies.push(None)?;
+    }
+    Ok(replies)
+}
+
+/// The replies, each of which is there, put where there is room for them.
+fn joined(replies: Vec<Option<Part>>, parts: Vec<Part>) -> Vec<Part>
+    requires each { (ps : List ReplyPart) × (replies.items ≡ map Some ps) }
+    requires empty { parts.items ≡ [] }
+    requires room { vec_len replies ≤ vec_capacity parts }
+    ensures { map Some result.items ≡ replies.items }
+{
+    let mut parts = parts;
+    for reply in replies {
+        match reply {
+            Some(part) => parts.push_reserved(part),
+            None => unreachable!(),
+        }
+    }
+    parts
+}
+
+/// Puts a reply into its place, if that is empty. Whether it was.
+fn fill(replies: &mut Vec<Option<Part>>, key: usize, part: Part) -> bool
+    ensures filled { result ≡ true → IsFilled replies.old.items key part replies.new.items }
+    ensures kept { result ≡ false → replies.new.items ≡ replies.old.items }
+{
+    let Some(place) = replies.get_mut(key) else {
+        return false;
+    };
+    if place.is_some() {
+        return false;
+    }
+    *place = Some(part);
+    true
+}
+
+/// What is answered where a key has no reply for this reason, or each has one.
+fn outcome_of(
+    fault: Option<DeskFault>,
+    replies: Vec<Option<Part>>,
+    parts: Vec<Part>,
+) -> Result<Vec<Part>, DeskFault>
+    requires each { fault ≡ None → (ps : List ReplyPart) × (replies.items ≡ map Some ps) }
+    requires empty { parts.items ≡ [] }
+    requires room { vec_len replies ≤ vec_capacity parts }
+    ensures ok { IfOk result (λ v. (fault ≡ None) × (map Some v.items ≡ replies.items)) }
+    ensures err { IfErr result (λ f. fault ≡ Some f) }
+{
+    match fault {
+        Some(fault) => Err(fault),
+        None => Ok(joined(replies, parts)),
+    }
+}
+
+impl<F: HubNames> Mixed<F> {
+    /// A request among so many hubs, of which no key was asked yet.
     pub(crate) fn new(
         alloc: Global,
+        serial: u64,
         session: u64,
+        hubs: usize,
         request: Arc<Request>,
-    ) -> Result<Mixed, AllocError> {
+    ) -> Result<Mixed<F>, AllocError>
+        ensures { IfOk result (λ m. m ≡ record { request = record { serial = serial; session = session; hubs = hubs; asked = arc_value request }; answered = 0; fault = None }) }
+    {
         let of_keys = requests_of_keys(alloc, &request)?;
         let count = of_keys.len();
-        let mut replies = Vec::with_capacity(alloc, count)?;
-        for _key in 0..count {
-            replies.push(None)?;
-        }
+        let replies = no_replies(alloc, count)?;
         let parts = Vec::with_capacity(alloc, count)?;
         Ok(Mixed {
+            serial,
             session,
+            hubs,
             request,
             of_keys,
             replies,
             parts,
             asked: 0,
-            open: 0,
+            answered: 0,
             fault: None,
+            names: PhantomData,
         })
     }
 
     /// The request that it was made of.
-    pub(crate) fn request(&self) -> &Request {
+    pub(crate) fn request(&self) -> &Request
+        ensures { result.now ≡ self.now.request.asked }
+    {
         &self.request
     }
 
-    /// The next key that is to be asked, and what is asked of it; None while 1,024 are, or where one has no reply.
-    pub(crate) fn next_key(&mut self) -> Option<(usize, Arc<Request>)> {
-        if self.fault.is_some() || self.open >= MOST_OPEN {
+    /// Its serial number.
+    pub(crate) fn serial(&self) -> u64
+        ensures { result ≡ self.now.request.serial }
+    {
+        self.serial
+    }
+
+    /// What is asked for the next key; None while 1,024 keys are unanswered, or where one has no reply.
+    pub(crate) fn next_key(&mut self) -> Option<KeyAlone>
+        ensures same { self.new.request ≡ self.old.request }
+        ensures key { IfSome result (λ k. IsKeyAlone self.old.request k.key (request_value (arc_value k.request))) }
+    {
+        if self.fault.is_some() || self.asked.saturating_sub(self.answered) >= MOST_OPEN {
             return None;
         }
         let key = self.asked;
-        let request = Arc::try_clone(self.of_keys.get(key)?);
-        match request {
+        let Some(alone) = self.of_keys.get(key) else {
+            return None;
+        };
+        match Arc::try_clone(alone) {
             Ok(request) => {
                 self.asked = key.saturating_add(1);
-                self.open = self.open.saturating_add(1);
-                Some((key, request))
+                Some(KeyAlone { key, request })
             }
             Err(_) => {
                 self.fault = Some(DeskFault::Memory);
@@ -79,31 +192,56 @@ impl Mixed {
         }
     }
 
-    /// A key was answered.
-    pub(crate) fn put(&mut self, key: usize, outcome: Result<Vec<Part>, DeskFault>) {
-        self.open = self.open.saturating_sub(1);
+    /// A key that was asked has no reply, for this reason.
+    pub(crate) fn refuse(&mut self, fault: DeskFault)
+        requires { AsksHubs F.opened_of self.old.request.hubs (request_value self.old.request.asked) (Err fault) }
+        ensures { self.new.request ≡ self.old.request }
+    {
+        self.answered = self.answered.saturating_add(1);
+        self.fault = Some(self.fault.unwrap_or(fault));
+    }
+
+    /// A key that was asked has the last one of these replies.
+    fn keep(&mut self, key: usize, parts: Vec<Part>)
+        requires { IsKeyAnswer F.opened_of self.old.request key (answer_value (Ok parts)) }
+        ensures { self.new.request ≡ self.old.request }
+    {
+        key_words_have_one_reading();
+        let mut parts = parts;
+        let Some(part) = parts.pop() else {
+            return;
+        };
+        if !fill(&mut self.replies, key, part) {
+            return;
+        }
+        self.answered = self.answered.saturating_add(1);
+    }
+
+    /// A key that was asked is answered so.
+    pub(crate) fn put(&mut self, key: usize, outcome: Result<Vec<Part>, DeskFault>)
+        requires { IsKeyAnswer F.opened_of self.old.request key (answer_value outcome) }
+        ensures { self.new.request ≡ self.old.request }
+    {
         match outcome {
-            Ok(parts) => {
-                let mut parts = parts;
-                if let Some(place) = self.replies.get_mut(key) {
-                    *place = parts.pop();
-                }
-            }
-            Err(fault) => {
-                if self.fault.is_none() {
-                    self.fault = Some(fault);
-                }
-            }
+            Ok(parts) => self.keep(key, parts),
+            Err(fault) => self.refuse(fault),
         }
     }
 
-    /// Whether it can be answered: no key that was asked is unanswered, and no further one is to be asked.
-    pub(crate) fn is_done(&self) -> bool {
-        self.open == 0 && (self.fault.is_some() || self.asked == self.of_keys.len())
+    /// Whether it can be answered: all keys that were asked are answered, and no further one is to be asked.
+    pub(crate) fn is_done(&self) -> bool
+        ensures { result ≡ true → IsDone self.now }
+    {
+        self.answered == self.asked && (self.fault.is_some() || self.asked == self.of_keys.len())
     }
 
     /// Its answer, once it is done.
-    pub(crate) fn into_answer(self) -> Answer {
+    pub(crate) fn into_answer(self) -> Answer
+        requires { IsDone self }
+        ensures asker { result.asker ≡ Asker.Session self.request.session }
+        ensures request { arc_value result.request ≡ self.request.asked }
+        ensures answer { AsksHubs F.opened_of self.request.hubs (request_value self.request.asked) (answer_value result.outcome) }
+    {
         let Mixed {
             session,
             request,
@@ -112,28 +250,11 @@ impl Mixed {
             fault,
             ..
         } = self;
-        let outcome = match fault {
-            Some(fault) => Err(fault),
-            None => joined(replies, parts),
-        };
+        let outcome = outcome_of(fault, replies, parts);
         Answer {
             asker: Asker::Session(session),
             request,
             outcome,
         }
     }
-}
-
-/// The replies in the order of their keys, where each is there.
-fn joined(replies: Vec<Option<Part>>, parts: Vec<Part>) -> Result<Vec<Part>, DeskFault> {
-    let mut parts = parts;
-    for reply in replies {
-        let Some(part) = reply else {
-            return Err(DeskFault::Busy);
-        };
-        if parts.push(part).is_err() {
-            return Err(DeskFault::Memory);
-        }
-    }
-    Ok(parts)
 }

@@ -218,7 +218,10 @@ impl Line {
             arrivals.reserve(sent.len())?;
             again.reserve(sent.len())?;
             let before = arrivals.len();
-            while let Some(one) = sent.pop_front() {
+            for _leg in 0..sent.len() {
+                let Some(one) = sent.pop_front() else {
+                    break;
+                };
                 let _ = upstream.lost();
                 let Sent {
                     flight,
@@ -228,7 +231,7 @@ impl Line {
                 if !is_again && may_ask_again(flight.request.op, loss) {
                     again.push(flight)?;
                 } else {
-                    let number = arrivals.len() - before;
+                    let number = arrivals.len().saturating_sub(before);
                     arrivals.push(Arrival::lost_as(self.server, flight.leg, number))?;
                 }
             }

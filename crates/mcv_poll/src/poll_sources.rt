@@ -1,5 +1,8 @@
 //! Clients and servers over `mio`.
 
+ghost use Rattle.std.specs.Prelude.{◌≤◌, ℕ, IfOk};
+ghost use Rattle.mcv_loop.specs.Took.{IsWithin};
+
 use crate::spooler::Mailbox;
 use mcv_base::{Moment, ServerId};
 use mcv_hub::Pass;
@@ -55,9 +58,11 @@ pub struct PollSources<R: Net + Clock + Wait + Copy + Drop> {
     mailbox: Arc<Mailbox>,
 }
 
-/// What came of a read or a write of so many bytes at most.
-fn took(result: io::Result<usize>) -> Took {
-    match result {
+/// What came of a read or a write.
+fn took(outcome: io::Result<usize>) -> Took
+    ensures { (most : ℕ) → IfOk outcome (λ count. count ≤ most) → IsWithin most result }
+{
+    match outcome {
         Ok(0) => Took::Over,
         Ok(count) => Took::Bytes(count),
         Err(error) => match error.kind() {

@@ -83,7 +83,10 @@ impl Mailbox {
     ) -> Result<(), AllocError> {
         let mut letters = self.letters.lock(rt);
         ready.reserve(letters.stored.len())?;
-        while let Some((hub, stored)) = letters.stored.pop() {
+        for _answer in 0..letters.stored.len() {
+            let Some((hub, stored)) = letters.stored.pop() else {
+                break;
+            };
             ready.push(Ready::Stored { hub, stored })?;
         }
         Ok(())

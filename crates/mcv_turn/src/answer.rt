@@ -14,8 +14,12 @@ use std::sync::Arc;
 pub enum Asker {
     /// The session of this number.
     Session(u64),
-    /// A request of several hubs, for its key of this number alone.
-    Key { request: usize, key: usize },
+    /// A request of several hubs, for its key of this number alone. No other such request has its serial number.
+    Key {
+        request: usize,
+        serial: u64,
+        key: usize,
+    },
 }
 
 /// The answer to a request: a reply for each of its keys, in their order, or why there is none.

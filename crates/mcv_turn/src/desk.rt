@@ -1,13 +1,13 @@
 //! The desk of a loop at one hub.
 
-ghost use Rattle.std.specs.Prelude.{◌≡◌, ◌||◌, [], IfNone, IfSome, OnErr, OnOk, not};
+ghost use Rattle.std.specs.Prelude.{◌≡◌, ◌||◌, ℕ, [], None, IfNone, IfOk, IfSome, OnErr, OnOk, not};
 ghost use Rattle.std.specs.Arc.{arc_value};
 ghost use Rattle.mcv_hub.specs.Gate.{IsGate, is_closed};
 ghost use Rattle.mcv_hub.specs.declared.gate.Gate.{Gate as HubGate};
 ghost use Rattle.mcv_session.specs.Desk.{answer_value};
 ghost use Rattle.mcv_text.specs.Request.{request_value};
 ghost use Rattle.mcv_turn.specs.Answers.{IsAnswer};
-ghost use Rattle.mcv_turn.specs.OpenRequests.{AreSameOpen, Closes, Opens};
+ghost use Rattle.mcv_turn.specs.OpenRequests.{AreSameOpen, Closes, Opens, open_at};
 ghost use Rattle.mcv_turn.specs.Runs.{IsTurn, Runs, SendsMore};
 
 use crate::answer::{Answer, Asker};
@@ -65,7 +65,9 @@ impl<'a, B: HubLedger, T: Ledger> LoopDesk<'a, B, T> {
         alloc: Global,
         hub: &'a Hub<B, T>,
         seat: Seat<B, T>,
-    ) -> Result<LoopDesk<'a, B, T>, AllocError> {
+    ) -> Result<LoopDesk<'a, B, T>, AllocError>
+        ensures { IfOk result (λ d. (number : ℕ) → open_at d.questions number ≡ None) }
+    {
         let routes = HubRoutes::of(hub);
         let texts = texts_of(alloc, routes.get())?;
         let servers = Servers::new(alloc, routes.get().servers().len())?;
