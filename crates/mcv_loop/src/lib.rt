@@ -12,6 +12,7 @@ mod lines;
 mod loss;
 mod main_loop;
 mod post;
+mod sent;
 mod sources;
 mod turns;
 

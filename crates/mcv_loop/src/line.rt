@@ -1,7 +1,8 @@
 //! A connection of a loop to a server, for the legs of one hub.
 
-use crate::loss::{Loss, may_ask_again};
+use crate::loss::Loss;
 use crate::main_loop::has_passed;
+use crate::sent::{Sent, tell_lost};
 use mcv_base::ServerId;
 use mcv_outgoing::Outgoing;
 use mcv_pipeline::Landed;
@@ -31,15 +32,6 @@ enum State {
         output: Outgoing,
         since: Option<Instant>,
     },
-}
-
-/// A leg in flight.
-#[derive(Drop)]
-struct Sent {
-    flight: Flight,
-    at: Option<Instant>,
-    /// It was sent before over a connection that was lost.
-    is_again: bool,
 }
 
 /// A connection to a server.
@@ -217,24 +209,7 @@ impl Line {
             upstream.close();
             arrivals.reserve(sent.len())?;
             again.reserve(sent.len())?;
-            let before = arrivals.len();
-            for _leg in 0..sent.len() {
-                let Some(one) = sent.pop_front() else {
-                    break;
-                };
-                let _ = upstream.lost();
-                let Sent {
-                    flight,
-                    is_again,
-                    ..
-                } = one;
-                if !is_again && may_ask_again(flight.request.op, loss) {
-                    again.push(flight)?;
-                } else {
-                    let number = arrivals.len().saturating_sub(before);
-                    arrivals.push(Arrival::lost_as(self.server, flight.leg, number))?;
-                }
-            }
+            tell_lost(self.server, loss, sent, arrivals, again);
         }
         self.state = State::Closed;
         self.lost = None;

@@ -1,0 +1,39 @@
+-- Legs of a lost connection, one after the other.
+use Rattle.std.proofs.Common.{◌≡◌, ◌∙◌, ◌+◌, ◌≤◌, ◌++◌, ◌∷◌, ◌&&◌, [], List, Bool, true, false, cond, ap, append_assoc, arith, length, refl}
+use Rattle.std.proofs.lemmas.List.{append-nil}
+use Rattle.mcv_base.specs.declared.request.ServerId.{ServerId}
+use Rattle.mcv_turn.specs.declared.arrival.Arrival.{Arrival}
+use Rattle.mcv_turn.specs.declared.flight.Flight.{Flight}
+use Rattle.mcv_loop.specs.Lost.{again_of, goes_again, lost_leg, lost_of}
+use Rattle.mcv_loop.specs.declared.loss.Loss.{Loss}
+use Rattle.mcv_loop.specs.declared.sent.Sent.{Sent}
+
+one_goes : {X : Type 0} (b : Bool) (x : X) (more before : List X) → (before ++ cond b (x ∷ []) []) ++ more ≡ before ++ cond b (x ∷ more) more
+one_goes true x more before = append_assoc before (x ∷ []) more
+one_goes false x more before = ap (λ xs. xs ++ more) (append-nil before)
+
+pub again_step : (loss : Loss) (s : Sent) (rest : List Sent) (before : List Flight) → (before ++ again_of loss (s ∷ [])) ++ again_of loss rest ≡ before ++ again_of loss (s ∷ rest)
+again_step loss s rest before = one_goes (goes_again loss s) s.flight (again_of loss rest) before
+
+one_is_lost : {X : Type 0} (b oldest : Bool) (x : X) (more : Bool → List X) (before : List X) → (before ++ cond b [] (x ∷ [])) ++ more (oldest && b) ≡ before ++ cond b (more oldest) (x ∷ more false)
+one_is_lost true true x more before = ap (λ xs. xs ++ more true) (append-nil before)
+one_is_lost true false x more before = ap (λ xs. xs ++ more false) (append-nil before)
+one_is_lost false true x more before = append_assoc before (x ∷ []) (more false)
+one_is_lost false false x more before = append_assoc before (x ∷ []) (more false)
+
+pub lost_step : (server : ServerId) (loss : Loss) (oldest : Bool) (s : Sent) (rest : List Sent) (before : List Arrival) → (before ++ lost_of server loss oldest (s ∷ [])) ++ lost_of server loss (oldest && goes_again loss s) rest ≡ before ++ lost_of server loss oldest (s ∷ rest)
+lost_step server loss oldest s rest before = one_is_lost (goes_again loss s) oldest (lost_leg server oldest s.flight.leg) (λ o. lost_of server loss o rest) before
+
+short : {X : Type 0} (b : Bool) (x : X) → length (cond b (x ∷ []) []) ≤ 1
+short true x = omega arith
+short false x = omega arith
+
+short_too : {X : Type 0} (b : Bool) (x : X) → length (cond b [] (x ∷ [])) ≤ 1
+short_too true x = omega arith
+short_too false x = omega arith
+
+pub one_again : (loss : Loss) (s : Sent) → length (again_of loss (s ∷ [])) ≤ 1
+one_again loss s = short (goes_again loss s) s.flight
+
+pub one_lost : (server : ServerId) (loss : Loss) (oldest : Bool) (s : Sent) → length (lost_of server loss oldest (s ∷ [])) ≤ 1
+one_lost server loss oldest s = short_too (goes_again loss s) (lost_leg server oldest s.flight.leg)
