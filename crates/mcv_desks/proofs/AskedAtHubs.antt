@@ -89,7 +89,7 @@ if_same f g P (inr gone) h = subst (λ (o : Option MixedRequest). IfSome o P) (s
 module _ (hubs next : ℕ) (old new : ℕ → Option MixedRequest) (left : AreSomeLeft old new) where
   still_asked : (hub : ℕ) (asker : Asker) (request : RequestValue) → IsAskedOf hubs hub next old asker request → IsAskedOf hubs hub next new asker request
   still_asked hub (Session session) request h = h
-  still_asked hub (Key number serial key) request h = (h.0, if_same (old number) (new number) _ (left number) h.1)
+  still_asked hub (Key number serial key) request h = (h.0, if_same (old number) (new number) (λ q. q.serial ≡ serial → IsKeyAlone q key request × IsHubOf hubs q.asked key hub) (left number) h.1)
 
   still_known : AreKnown hubs next old → AreKnown hubs next new
   still_known known number q there = elim (left number) [ inl same ↦ known number q (sym same ∙ there) | inr gone ↦ no_some (sym gone ∙ there) ]

@@ -109,16 +109,6 @@ all_there (Some x ∷ places) h =
     let rest = all_there places few in
     (x ∷ rest.0, ap (λ ps. Some x ∷ ps) rest.1)
 
-map_some_one : {X : Type 0} (xs ys : List X) → map Some xs ≡ map Some ys → xs ≡ ys
-map_some_one [] [] e = refl
-map_some_one [] (y ∷ ys) e = cc
-map_some_one (x ∷ xs) [] e = cc
-map_some_one (x ∷ xs) (y ∷ ys) e =
-    let head : x ≡ y = cc in
-    let tail : map Some xs ≡ map Some ys = cc in
-    let rest = map_some_one xs ys tail in
-    cc
-
 pub placed : {X : Type 0} (xs : List X) (k : ℕ) (x : X) → slice_get xs k ≡ Some x → slice_get (map Some xs) k ≡ Some (Some x)
 placed [] k x e = cc
 placed (y ∷ xs) zero x e = ap Some e

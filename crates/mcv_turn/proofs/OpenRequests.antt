@@ -1,7 +1,7 @@
 -- Requests that come to a desk, stay and go.
 use Rattle.slab.specs.Slab.{Slab, Updates, get, with_value}
 use Rattle.slab.proofs.SlabLemmas.{Updates-with_value}
-use Rattle.std.proofs.Common.{◌≡◌, ◌∙◌, ℕ, inl, inr, List, Option, None, Some, Result, Ok, Err, OnErr, ap, refl, subst, sym}
+use Rattle.std.proofs.Common.{◌≡◌, ◌∙◌, ℕ, inl, inr, List, [], Option, None, Some, Result, Ok, Err, OnErr, ap, refl, subst, sym}
 use Rattle.std.proofs.lemmas.Bool.{cases_eq}
 use Rattle.std.specs.Prelude.{IsSome, option_map}
 use Rattle.mcv_text.specs.Request.{RequestValue}
@@ -23,6 +23,10 @@ still_open old mid new h k = λ number. k number ∙ h number
 -- the values are as they were
 pub slots_same : (old new : Slab QuestionView) → new.slots ≡ old.slots → AreSameOpen old new
 slots_same old new same = λ number. ap (λ (slots : List (Option QuestionView)). open_at (record old { slots = slots }) number) same
+
+-- there is none
+pub none_open : (s : Slab QuestionView) → s.slots ≡ [] → (number : ℕ) → open_at s number ≡ None
+none_open s none number = ap (λ (slots : List (Option QuestionView)). open_at (record s { slots = slots }) number) none
 
 -- a question goes on: who asks, and what, stays
 pub goes_on : (s : Slab QuestionView) (number : ℕ) (old new : QuestionView) → get s number ≡ Some old → asked_in new ≡ asked_in old → AreSameOpen s (with_value s number new)

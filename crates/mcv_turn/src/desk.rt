@@ -71,12 +71,13 @@ impl<'a, B: HubLedger, T: Ledger> LoopDesk<'a, B, T> {
         let routes = HubRoutes::of(hub);
         let texts = texts_of(alloc, routes.get())?;
         let servers = Servers::new(alloc, routes.get().servers().len())?;
+        let questions = Slab::new(alloc);
         Ok(LoopDesk {
             alloc,
             routes,
             seat,
             kept: Kept::new(alloc),
-            questions: Slab::new(alloc),
+            questions,
             entering: VecDeque::new(alloc),
             done: VecDeque::new(alloc),
             notes: Notes::new(alloc, texts, servers),

@@ -10,4 +10,4 @@ pub invariant_of-self : goal.invariant_of-self
 invariant_of-self g c =
     let d = c.self.inside in
     let lower = c.in-Some.ensures.there in
-    desks_asked d.choice.now d.next (mixed_at d.mixed) (questions_at d.desks) (questions_at c.ask_at.new.self) c.in-Some.hub (ask_at-requires g c) c.ask_at.result _ _ (lower, c.in-Some.ensures.some) c.ask_at.ensures c.self.invariant
+    desks_asked d.choice.now d.next (mixed_at d.mixed) (questions_at d.desks) (questions_at c.ask_at.new.self) c.in-Some.hub (ask_at-requires g c) c.ask_at.result _ _ (lower, rw c.deref.ensures at c.in-Some.ensures.some) c.ask_at.ensures c.self.invariant

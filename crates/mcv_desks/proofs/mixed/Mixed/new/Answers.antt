@@ -6,7 +6,7 @@ use Rattle.mcv_desks.proofs.mixed.Mixed.new.Goals as goal
 
 pub invariant_of-result : goal.invariant_of-result
 invariant_of-result g c = record {
-  keys = c.in_ok-of_keys.ensures;
+  keys = rw c.deref.ensures at c.in_ok-of_keys.ensures;
   one_each = omega (arith, c.in_ok-replies.ensures.many, c.len-count.ensures);
   replied = nothing_replied g.F.HubNames.opened_of c.args.hubs (request_value (arc_value c.args.request)) c.in_ok-replies.replies.items c.in_ok-replies.ensures.none;
   counted = λ _. omega arith;
