@@ -1,5 +1,8 @@
 //! Sources in memory.
 
+ghost use Rattle.std.specs.Prelude.{◌≤◌, length};
+ghost use Rattle.mcv_loop.specs.Took.{IsWithin};
+
 use crate::disk::MemoryDisk;
 use crate::server::Server;
 use mcv_base::{Moment, ServerId};
@@ -145,13 +148,56 @@ impl Memory {
 }
 
 /// Takes the first bytes away, as many as there is room for, and no more than this.
-fn take(from: &mut Vec<u8>, room: &mut [u8], most: usize) -> usize {
+fn take(from: &mut Vec<u8>, room: &mut [u8], most: usize) -> usize
+    ensures { result ≤ length room.old }
+{
     let count = from.len().min(room.len()).min(most);
     for (place, byte) in room.iter_mut().zip(from.iter()) {
         *place = *byte;
     }
     from.drain(..count);
     count
+}
+
+/// As `take`: what came of it.
+fn taken(from: &mut Vec<u8>, room: &mut [u8], most: usize) -> Took
+    ensures { IsWithin (length room.old) result }
+{
+    match take(from, room, most) {
+        0 => Took::NotNow,
+        count => Took::Bytes(count),
+    }
+}
+
+impl Memory {
+    fn read_client(&mut self, number: u64, room: &mut [u8]) -> Took
+        ensures { IsWithin (length room.old) result }
+    {
+        let most = self.cut;
+        let Some(client) = self.clients.get_mut(number as usize) else {
+            return Took::Over;
+        };
+        if client.sends.is_empty() && client.goes {
+            return Took::Over;
+        }
+        taken(&mut client.sends, room, most)
+    }
+
+    fn read_wire(&mut self, hub: usize, server: ServerId, room: &mut [u8]) -> Took
+        ensures { IsWithin (length room.old) result }
+    {
+        let most = self.cut;
+        let Some(wire) = self.wire(hub, server) else {
+            return Took::Over;
+        };
+        if !wire.is_open || !wire.is_up {
+            return Took::Over;
+        }
+        if wire.hangs {
+            return Took::NotNow;
+        }
+        taken(&mut wire.memcached.says, room, most)
+    }
 }
 
 impl Sources for Memory {
@@ -161,7 +207,10 @@ impl Sources for Memory {
         _most: Option<Duration>,
         ready: &mut Vec<Ready>,
     ) -> Result<(), SourceFault> {
-        while let Some((hub, stored)) = self.stored.pop() {
+        for _answer in 0..self.stored.len() {
+            let Some((hub, stored)) = self.stored.pop() else {
+                break;
+            };
             if ready.push(Ready::Stored { hub, stored }).is_err() {
                 return Err(SourceFault::Memory);
             }
@@ -173,34 +222,10 @@ impl Sources for Memory {
     }
 
     fn read(&mut self, _pass: &Pass, source: Source, room: &mut [u8]) -> Took {
-        let most = self.cut;
-        let count = match source {
-            Source::Client(number) => {
-                let Some(client) = self.clients.get_mut(number as usize) else {
-                    return Took::Over;
-                };
-                if client.sends.is_empty() && client.goes {
-                    return Took::Over;
-                }
-                take(&mut client.sends, room, most)
-            }
-            Source::Server { hub, server } => {
-                let Some(wire) = self.wire(hub, server) else {
-                    return Took::Over;
-                };
-                if !wire.is_open || !wire.is_up {
-                    return Took::Over;
-                }
-                if wire.hangs {
-                    return Took::NotNow;
-                }
-                take(&mut wire.memcached.says, room, most)
-            }
-        };
-        if count == 0 {
-            return Took::NotNow;
+        match source {
+            Source::Client(number) => self.read_client(number, room),
+            Source::Server { hub, server } => self.read_wire(hub, server, room),
         }
-        Took::Bytes(count)
     }
 
     fn write(&mut self, _pass: &Pass, source: Source, bytes: &[u8]) -> Took {
