@@ -1,18 +1,26 @@
 -- What the desks are asked, as requests come and go.
 use Rattle.slab.specs.Slab.{Slab}
-use Rattle.std.proofs.Common.{◌≡◌, ◌∙◌, ◌+◌, ◌<◌, ◌⊎◌, ℕ, inl, inr, Option, None, Some, Result, Ok, Err, OnErr, OnOk, ap, arith, subst, sym}
+use Rattle.std.proofs.Common.{◌≡◌, ◌∙◌, ◌+◌, ◌<◌, ◌⊎◌, ℕ, inl, inr, List, Option, None, Some, Result, Ok, Err, OnErr, OnOk, ap, arith, refl, subst, sym}
 use Rattle.std.specs.Prelude.{IfNone, IfSome}
 use Rattle.std.specs.Arc.{arc_value}
 use Rattle.std.proofs.lemmas.Bool.{cases_eq}
+use Rattle.mcv_base.specs.Reply.{ReplyValue}
+use Rattle.mcv_core.specs.CoreView.{CoreView}
+use Rattle.mcv_session.specs.declared.desk.DeskFault.{DeskFault}
 use Rattle.mcv_text.specs.Request.{RequestValue, request_value}
+use Rattle.mcv_turn.specs.Answers.{IsAnswer}
 use Rattle.mcv_turn.specs.OpenRequests.{AreSameOpen, Closes, Opens, open_at}
 use Rattle.mcv_turn.specs.Question.{QuestionView}
+use Rattle.mcv_turn.specs.declared.answer.Answer.{Answer}
 use Rattle.mcv_turn.specs.declared.answer.Asker.{Asker}
 use Rattle.mcv_turn.specs.declared.answer.Asker.TheVariants.{Key, Session}
 use Rattle.mcv_hubs.specs.Choice.{IsHubOf}
-use Rattle.mcv_desks.specs.Asked.{AreAsked, AreDesks, AreKnown, AreSomeLeft, AtOne, IsAskedOf, IsNextKey}
-use Rattle.mcv_desks.specs.Mixed.{IsKeyAlone, MixedRequest}
+use Rattle.mcv_desks.specs.Asked.{AreAsked, AreDesks, AreKnown, AreSomeLeft, AtOne, IfWhole, IsAnswerOf, IsAskedOf, IsNextKey, given_of}
+use Rattle.mcv_desks.specs.Desks.{AsksHubs}
+use Rattle.mcv_desks.specs.Mixed.{IsKeyAlone, IsKeyAnswer, MixedRequest}
+use Rattle.mcv_desks.specs.declared.desks.Given.{Given}
 use Rattle.mcv_desks.specs.declared.desks.NextKey.{NextKey}
+use Rattle.mcv_desks.proofs.KeysOfHubs.{asked_one_hub}
 
 no_some : {A Z : Type 0} {x : A} → None ≡ Some x → Z
 no_some e = cc
@@ -157,3 +165,37 @@ key_is_asked hubs next mixed number k known h =
     let its = known number h.request h.there in
     let P : Option MixedRequest → Type 0 = λ o. IfSome o (λ q. q.serial ≡ k.serial → IsKeyAlone q k.key (request_value (arc_value k.alone)) × IsHubOf hubs q.asked k.key k.hub) in
     (omega (arith, its.1, h.serial), subst P (sym h.there) (λ _. (h.alone, h.of_key)))
+
+-- ---- answers
+
+pub if_some : {A : Type 0} (P Q : A → Type 0) (o : Option A) → ((a : A) → P a → Q a) → IfSome o P → IfSome o Q
+if_some P Q None f h = tt
+if_some P Q (Some a) f h = f a h
+
+pub if_whole : (P : Answer → Type 0) (o : Option Answer) (given : Given) → given ≡ given_of o → IfSome o P → IfWhole given P
+if_whole P None given e h = subst (λ (x : Given). IfWhole x P) (sym e) tt
+if_whole P (Some a) given e h = subst (λ (x : Given). IfWhole x P) (sym e) h
+
+module _ (opened_of : ℕ → CoreView) (hubs hub next : ℕ) (mixed : ℕ → Option MixedRequest) where
+  answer_to_key : (serial key : ℕ) (request : RequestValue) (answer : Result (List ReplyValue) DeskFault) (o : Option MixedRequest) → ((q : MixedRequest) → o ≡ Some q → (q.hubs ≡ hubs) × (q.serial < next)) → IfSome o (λ q. q.serial ≡ serial → IsKeyAlone q key request × IsHubOf hubs q.asked key hub) → IsAnswer (opened_of hub) request answer
+      → IfSome o (λ q. q.serial ≡ serial → IsKeyAnswer opened_of q key answer)
+  answer_to_key serial key request answer None known asked is = tt
+  answer_to_key serial key request answer (Some q) known asked is = λ e.
+      let a = asked e in
+      record {
+        hub = hub;
+        of_key = subst (λ (k : ℕ). IsHubOf k q.asked key hub) (sym (known q refl).0) a.1;
+        is = subst (λ (r : RequestValue). IsAnswer (opened_of hub) r answer) a.0.is is;
+      }
+
+  -- what is asked for a key alone is answered for that key
+  pub key_is_answered : (number serial key : ℕ) (request : RequestValue) (answer : Result (List ReplyValue) DeskFault) → AreKnown hubs next mixed → IsAskedOf hubs hub next mixed (Key number serial key) request → IsAnswer (opened_of hub) request answer → IfSome (mixed number) (λ q. q.serial ≡ serial → IsKeyAnswer opened_of q key answer)
+  key_is_answered number serial key request answer known asked is = answer_to_key serial key request answer (mixed number) (known number) asked.1 is
+
+  -- what is asked whole is answered by its hub
+  pub whole_is_answered : (session : ℕ) (request : RequestValue) (answer : Result (List ReplyValue) DeskFault) → IsAskedOf hubs hub next mixed (Session session) request → IsAnswer (opened_of hub) request answer → AsksHubs opened_of hubs request answer
+  whole_is_answered session request answer asked is = asked_one_hub opened_of hubs hub request asked.0 asked.1 answer is
+
+  -- what is answered key by key is answered by the hubs
+  pub keys_are_answered : (number : ℕ) (asker : Asker) (request : RequestValue) (answer : Result (List ReplyValue) DeskFault) → AreKnown hubs next mixed → IsAnswerOf opened_of (mixed number) asker request answer → AsksHubs opened_of hubs request answer
+  keys_are_answered number asker request answer known h = subst (λ (k : ℕ). AsksHubs opened_of k request answer) (known number h.its h.there).0 h.asks

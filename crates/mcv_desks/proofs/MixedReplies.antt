@@ -1,13 +1,14 @@
 -- Replies to the keys of a request, each of its hub.
-use Rattle.std.proofs.Common.{◌≡◌, ◌∙◌, ◌++◌, ◌+◌, ◌<◌, ◌≤◌, ℕ, zero, suc, true, List, [], ◌∷◌, Vec, Global, Option, None, Some, Result, Ok, Err, IfErr, IfOk, inl, inr, ap, arith, length, map, option_to_list, refl, subst, sym}
-use Rattle.std.specs.Prelude.{IfSome, count_by, is_none, is_some, option_map, slice_get, slice_set}
+use Rattle.std.proofs.Common.{◌≡◌, ◌∙◌, ◌++◌, ◌+◌, ◌<◌, ◌≤◌, ℕ, zero, suc, Bool, Bor, true, false, not, List, [], ◌∷◌, Vec, Global, Option, None, Some, Result, Ok, Err, IfErr, IfOk, inl, inr, ap, arith, length, map, option_to_list, refl, subst, sym}
+use Rattle.std.specs.Prelude.{IfSome, IsSome, count_by, is_none, is_some, option_map, slice_get, slice_set}
 use Rattle.std.specs.Arc.{arc_value}
 use Rattle.std.specs.Option.{unwrap_or}
 use Rattle.std.specs.declared.sync.Arc.{Arc}
 use Rattle.std.specs.List.{All}
 use Rattle.std.proofs.lemmas.List.{length-map, length-set}
 use Rattle.std.proofs.lemmas.List.Sums.{count_by-le-length}
-use Rattle.std.proofs.lemmas.Option.{slice_get_within}
+use Rattle.std.specs.Slice.{IsItemAt}
+use Rattle.std.proofs.lemmas.Option.{slice_get-get_or, slice_get_within}
 use Rattle.mcv_base.specs.Reply.{ReplyValue, part_value}
 use Rattle.mcv_base.specs.declared.operation.Op.{Op}
 use Rattle.mcv_base.specs.declared.reply.Part.{Part}
@@ -114,12 +115,21 @@ placed [] k x e = cc
 placed (y ∷ xs) zero x e = ap Some e
 placed (y ∷ xs) (suc k) x e = placed xs k x e
 
--- none of the places of replies that are there is empty
-pub none_is_empty : {X : Type 0} (xs : List X) (before behind : List (Option X)) → before ++ None ∷ behind ≡ map Some xs → ⊥
-none_is_empty [] [] behind e = cc
-none_is_empty [] (o ∷ before) behind e = cc
-none_is_empty (x ∷ xs) [] behind e = cc
-none_is_empty (x ∷ xs) (o ∷ before) behind e = let tail : before ++ None ∷ behind ≡ map Some xs = cc in none_is_empty xs before behind tail
+-- each of the places of replies that are there has one
+pub one_is_there : {X : Type 0} (xs : List X) (before behind : List (Option X)) (o : Option X) → before ++ o ∷ behind ≡ map Some xs → IsSome o
+one_is_there [] [] behind o e = cc
+one_is_there [] (p ∷ before) behind o e = cc
+one_is_there (x ∷ xs) [] behind o e = let same : Some x ≡ o = cc in subst IsSome same refl
+one_is_there (x ∷ xs) (p ∷ before) behind o e = let tail : before ++ o ∷ behind ≡ map Some xs = cc in one_is_there xs before behind o tail
+
+-- what a place has
+pub item_there : {X : Type 0} (xs : List X) (i : ℕ) (x : Bor X) → IsItemAt xs i (Some x) → slice_get xs i ≡ Some x.now
+item_there xs i x h = slice_get-get_or xs i x.now h.3.0 ∙ ap Some (sym h.1)
+
+pub none_of : {X : Type 0} (o : Option X) (b : Bool) → is_some o ≡ not b → b ≡ true → o ≡ None
+none_of None b e t = refl
+none_of (Some x) true e t = cc
+none_of (Some x) false e t = cc
 
 -- ---- all replies
 

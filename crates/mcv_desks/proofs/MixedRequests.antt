@@ -28,6 +28,10 @@ goes_on s number old new there same_request =
 pub is_there : (s : Slab MixedView) (number : ℕ) (m : MixedView) → get s number ≡ Some m → mixed_at s number ≡ Some m.request
 is_there s number m there = ap (option_map (λ (v : MixedView). v.request)) there
 
+-- one comes
+pub one_came : (old new : Slab MixedView) (number : ℕ) (m : MixedView) → Updates old new number (Some m) → (other : ℕ) → (other ≡ number → ⊥) → mixed_at new other ≡ mixed_at old other
+one_came old new number m u other apart = ap (option_map (λ (v : MixedView). v.request)) (u.others other apart)
+
 -- one goes
 pub one_left : (old new : Slab MixedView) (number : ℕ) → Updates old new number None → AreSomeLeft (mixed_at old) (mixed_at new)
 one_left old new number u other =

@@ -1,6 +1,6 @@
 -- What the desks are asked, each at its hub (own).
 use Rattle.slab.specs.Slab.{Slab, get}
-use Rattle.std.specs.Prelude.{◌≡◌, ◌≢◌, ◌<◌, ◌⊎◌, ℕ, zero, suc, List, Option, None, Some, Result, IfSome, option_map}
+use Rattle.std.specs.Prelude.{◌≡◌, ◌≢◌, ◌<◌, ◌⊎◌, ℕ, zero, suc, List, Option, None, Some, Result, IfSome, ⊤, option_map}
 use Rattle.std.specs.Arc.{arc_value}
 use Rattle.mcv_base.specs.Reply.{ReplyValue}
 use Rattle.mcv_core.specs.CoreView.{CoreView}
@@ -9,10 +9,13 @@ use Rattle.mcv_session.specs.declared.desk.DeskFault.{DeskFault}
 use Rattle.mcv_text.specs.Request.{RequestValue, request_value}
 use Rattle.mcv_turn.specs.OpenRequests.{open_at}
 use Rattle.mcv_turn.specs.Question.{QuestionView}
+use Rattle.mcv_turn.specs.declared.answer.Answer.{Answer}
 use Rattle.mcv_turn.specs.declared.answer.Asker.{Asker}
 use Rattle.mcv_turn.specs.declared.answer.Asker.TheVariants.{Key, Session}
 use Rattle.mcv_desks.specs.Desks.{AsksHubs, HaveHub}
 use Rattle.mcv_desks.specs.Mixed.{IsKeyAlone, MixedRequest, MixedView}
+use Rattle.mcv_desks.specs.declared.desks.Given.{Given}
+use Rattle.mcv_desks.specs.declared.desks.Given.TheVariants.{Nothing, Reply, Whole}
 use Rattle.mcv_desks.specs.declared.desks.NextKey.{NextKey}
 use Rattle.mcv_desks.specs.declared.hub_desks.HubDesks.{HubDesks}
 
@@ -63,6 +66,16 @@ pub record IsAnswerOf (opened_of : ℕ → CoreView) (mixed : Option MixedReques
   pub there : mixed ≡ Some its
   pub to : asker ≡ Session its.session
   pub asks : AsksHubs opened_of its.hubs request answer
+
+-- it holds of the answer, where a request is answered
+abbrev pub IfWhole : Given → (Answer → Type 0) → Type 0
+IfWhole Nothing P = ⊤
+IfWhole Reply P = ⊤
+IfWhole (Whole a) P = P a
+
+abbrev pub given_of : Option Answer → Given
+given_of None = Reply
+given_of (Some a) = Whole a
 
 -- ---- what is asked
 

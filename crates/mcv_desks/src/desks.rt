@@ -2,7 +2,7 @@
 
 ghost use Rattle.std.specs.Prelude.{◌≡◌, ◌<◌, ℕ, IfOk, IfSome};
 ghost use Rattle.std.specs.Arc.{arc_value};
-ghost use Rattle.mcv_desks.specs.Asked.{AreSameMixed, AreSomeLeft, IsAnswerOf, IsNextKey, mixed_at};
+ghost use Rattle.mcv_desks.specs.Asked.{AreSameMixed, AreSomeLeft, IfWhole, IsAnswerOf, IsNextKey, given_of, mixed_at};
 ghost use Rattle.mcv_desks.specs.Desks.{AsksHubs};
 ghost use Rattle.mcv_desks.specs.Mixed.{IsKeyAnswer};
 ghost use Rattle.mcv_session.specs.Desk.{answer_value};
@@ -58,6 +58,27 @@ struct NextKey {
     key: usize,
     /// What is asked for it.
     alone: Arc<Request>,
+}
+
+/// What comes of the next answer of one desk.
+#[derive(Drop)]
+enum Given {
+    /// There was none.
+    Nothing,
+    /// It is for one key of a request, and others are missing.
+    Reply,
+    /// A request of a session is answered.
+    Whole(Answer),
+}
+
+/// What comes of an answer for one key, where this answers the request, if it does.
+fn given_of(whole: Option<Answer>) -> Given
+    ensures { result ≡ given_of whole }
+{
+    match whole {
+        Some(answer) => Given::Whole(answer),
+        None => Given::Reply,
+    }
 }
 
 /// The next key that is to be asked of the request of this number; None where there is none.
@@ -200,12 +221,13 @@ impl<'a, F: HubNames, G: Names> LoopDesks<'a, F, G> {
             serial: next.serial,
             key: next.key,
         };
-        let asked = self.desks.ask_at(next.hub, asker, next.alone);
-        if asked.is_ok() {
-            return true;
+        match self.desks.ask_at(next.hub, asker, next.alone) {
+            Ok(()) => true,
+            Err(_) => {
+                refuse_at(&mut self.mixed, number);
+                false
+            }
         }
-        refuse_at(&mut self.mixed, number);
-        false
     }
 
     /// The next answer to a request of a session, from replies of the hubs of its keys, in the order of the keys; None where none is
@@ -231,27 +253,27 @@ impl<'a, F: HubNames, G: Names> LoopDesks<'a, F, G> {
         ensures answer { IfSome result (λ a. AsksHubs F.opened_of self.old (request_value (arc_value a.request)) (answer_value a.outcome)) }
     {
         for _answer in 0..TURNS {
-            let (was_there, answer) = self.next_of(hub);
-            if answer.is_some() || !was_there {
-                return answer;
+            match self.next_of(hub) {
+                Given::Nothing => return None,
+                Given::Reply => {}
+                Given::Whole(answer) => return Some(answer),
             }
         }
         None
     }
 
-    /// Takes the next answer of the desk at the hub of this number. Whether there was one; and what is answered to a session by it,
-    /// which is nothing where it is for one key, and others are missing.
-    fn next_of(&mut self, hub: usize) -> (bool, Option<Answer>)
+    /// Takes the next answer of the desk at the hub of this number.
+    fn next_of(&mut self, hub: usize) -> Given
         requires { hub < 8 }
         ensures same { self.new ≡ self.old }
-        ensures asker { IfSome result.1 (λ a. (session : ℕ) × (a.asker ≡ Asker.Session session)) }
-        ensures answer { IfSome result.1 (λ a. AsksHubs F.opened_of self.old (request_value (arc_value a.request)) (answer_value a.outcome)) }
+        ensures asker { IfWhole result (λ a. (session : ℕ) × (a.asker ≡ Asker.Session session)) }
+        ensures answer { IfWhole result (λ a. AsksHubs F.opened_of self.old (request_value (arc_value a.request)) (answer_value a.outcome)) }
     {
         let Some(answer) = self.desks.answer_at(hub) else {
-            return (false, None);
+            return Given::Nothing;
         };
         match answer.asker {
-            Asker::Session(_) => (true, Some(answer)),
+            Asker::Session(_) => Given::Whole(answer),
             Asker::Key {
                 request,
                 serial,
@@ -259,7 +281,7 @@ impl<'a, F: HubNames, G: Names> LoopDesks<'a, F, G> {
             } => {
                 put_at(&mut self.mixed, request, serial, key, answer.outcome);
                 self.ask_keys(request);
-                (true, self.take_done(request))
+                given_of(self.take_done(request))
             }
         }
     }

@@ -83,12 +83,19 @@ fn joined(replies: Vec<Option<Part>>, parts: Vec<Part>) -> Vec<Part>
 {
     let mut parts = parts;
     for reply in replies {
-        match reply {
-            Some(part) => parts.push_reserved(part),
-            None => unreachable!(),
-        }
+        parts.push_reserved(reply.unwrap());
     }
     parts
+}
+
+/// Whether there is a place for the reply to the key of this number, and it is empty.
+fn is_vacant(replies: &[Option<Part>], key: usize) -> bool
+    ensures { result ≡ true → slice_get replies.now key ≡ Some None }
+{
+    match replies.get(key) {
+        Some(reply) => reply.is_none(),
+        None => false,
+    }
 }
 
 /// Puts a reply into its place, if that is empty. Whether it was.
@@ -96,12 +103,12 @@ fn fill(replies: &mut Vec<Option<Part>>, key: usize, part: Part) -> bool
     ensures filled { result ≡ true → IsFilled replies.old.items key part replies.new.items }
     ensures kept { result ≡ false → replies.new.items ≡ replies.old.items }
 {
+    if !is_vacant(replies.as_slice(), key) {
+        return false;
+    }
     let Some(place) = replies.get_mut(key) else {
         return false;
     };
-    if place.is_some() {
-        return false;
-    }
     *place = Some(part);
     true
 }
@@ -177,7 +184,7 @@ impl<F: HubNames> Mixed<F> {
             return None;
         }
         let key = self.asked;
-        let Some(alone) = self.of_keys.get(key) else {
+        let Some(alone) = self.of_keys.as_slice().get(key) else {
             return None;
         };
         match Arc::try_clone(alone) {
