@@ -15,10 +15,10 @@ use Rattle.mcv_turn.specs.declared.answer.Answer.{Answer}
 use Rattle.mcv_turn.specs.declared.answer.Asker.{Asker}
 use Rattle.mcv_turn.specs.declared.answer.Asker.TheVariants.{Key, Session}
 use Rattle.mcv_hubs.specs.Choice.{IsHubOf}
-use Rattle.mcv_desks.specs.Asked.{AreAsked, AreDesks, AreKnown, AreSomeLeft, AtOne, IfWhole, IsAnswerOf, IsAskedOf, IsNextKey, given_of}
+use Rattle.mcv_desks.specs.Asked.{AreAsked, AreDesks, AreKnown, AreSomeLeft, AtOne, IfWhole, IsAnswerOf, IsAskedOf, IsNextKey, joined_of}
 use Rattle.mcv_desks.specs.Desks.{AsksHubs}
 use Rattle.mcv_desks.specs.Mixed.{IsKeyAlone, IsKeyAnswer, MixedRequest}
-use Rattle.mcv_desks.specs.declared.desks.Given.{Given}
+use Rattle.mcv_desks.specs.declared.desks.Joined.{Joined}
 use Rattle.mcv_desks.specs.declared.desks.NextKey.{NextKey}
 use Rattle.mcv_desks.proofs.KeysOfHubs.{asked_one_hub}
 
@@ -172,9 +172,9 @@ pub if_some : {A : Type 0} (P Q : A → Type 0) (o : Option A) → ((a : A) → 
 if_some P Q None f h = tt
 if_some P Q (Some a) f h = f a h
 
-pub if_whole : (P : Answer → Type 0) (o : Option Answer) (given : Given) → given ≡ given_of o → IfSome o P → IfWhole given P
-if_whole P None given e h = subst (λ (x : Given). IfWhole x P) (sym e) tt
-if_whole P (Some a) given e h = subst (λ (x : Given). IfWhole x P) (sym e) h
+pub if_whole : (P : Answer → Type 0) (o : Option Answer) (joined : Joined) → joined ≡ joined_of o → IfSome o P → IfWhole joined P
+if_whole P None joined e h = subst (λ (x : Joined). IfWhole x P) (sym e) tt
+if_whole P (Some a) joined e h = subst (λ (x : Joined). IfWhole x P) (sym e) h
 
 module _ (opened_of : ℕ → CoreView) (hubs hub next : ℕ) (mixed : ℕ → Option MixedRequest) where
   answer_to_key : (serial key : ℕ) (request : RequestValue) (answer : Result (List ReplyValue) DeskFault) (o : Option MixedRequest) → ((q : MixedRequest) → o ≡ Some q → (q.hubs ≡ hubs) × (q.serial < next)) → IfSome o (λ q. q.serial ≡ serial → IsKeyAlone q key request × IsHubOf hubs q.asked key hub) → IsAnswer (opened_of hub) request answer

@@ -14,8 +14,8 @@ use Rattle.mcv_turn.specs.declared.answer.Asker.{Asker}
 use Rattle.mcv_turn.specs.declared.answer.Asker.TheVariants.{Key, Session}
 use Rattle.mcv_desks.specs.Desks.{AsksHubs, HaveHub}
 use Rattle.mcv_desks.specs.Mixed.{IsKeyAlone, MixedRequest, MixedView}
-use Rattle.mcv_desks.specs.declared.desks.Given.{Given}
-use Rattle.mcv_desks.specs.declared.desks.Given.TheVariants.{Nothing, Reply, Whole}
+use Rattle.mcv_desks.specs.declared.desks.Joined.{Joined}
+use Rattle.mcv_desks.specs.declared.desks.Joined.TheVariants.{Nothing, Reply, Whole}
 use Rattle.mcv_desks.specs.declared.desks.NextKey.{NextKey}
 use Rattle.mcv_desks.specs.declared.hub_desks.HubDesks.{HubDesks}
 
@@ -68,14 +68,14 @@ pub record IsAnswerOf (opened_of : ℕ → CoreView) (mixed : Option MixedReques
   pub asks : AsksHubs opened_of its.hubs request answer
 
 -- it holds of the answer, where a request is answered
-abbrev pub IfWhole : Given → (Answer → Type 0) → Type 0
+abbrev pub IfWhole : Joined → (Answer → Type 0) → Type 0
 IfWhole Nothing P = ⊤
 IfWhole Reply P = ⊤
 IfWhole (Whole a) P = P a
 
-abbrev pub given_of : Option Answer → Given
-given_of None = Reply
-given_of (Some a) = Whole a
+abbrev pub joined_of : Option Answer → Joined
+joined_of None = Reply
+joined_of (Some a) = Whole a
 
 -- ---- what is asked
 

@@ -2,7 +2,7 @@
 
 ghost use Rattle.std.specs.Prelude.{◌≡◌, ◌<◌, ℕ, IfOk, IfSome};
 ghost use Rattle.std.specs.Arc.{arc_value};
-ghost use Rattle.mcv_desks.specs.Asked.{AreSameMixed, AreSomeLeft, IfWhole, IsAnswerOf, IsNextKey, given_of, mixed_at};
+ghost use Rattle.mcv_desks.specs.Asked.{AreSameMixed, AreSomeLeft, IfWhole, IsAnswerOf, IsNextKey, joined_of, mixed_at};
 ghost use Rattle.mcv_desks.specs.Desks.{AsksHubs};
 ghost use Rattle.mcv_desks.specs.Mixed.{IsKeyAnswer};
 ghost use Rattle.mcv_session.specs.Desk.{answer_value};
@@ -62,7 +62,7 @@ struct NextKey {
 
 /// What comes of the next answer of one desk.
 #[derive(Drop)]
-enum Given {
+enum Joined {
     /// There was none.
     Nothing,
     /// It is for one key of a request, and others are missing.
@@ -72,12 +72,12 @@ enum Given {
 }
 
 /// What comes of an answer for one key, where this answers the request, if it does.
-fn given_of(whole: Option<Answer>) -> Given
-    ensures { result ≡ given_of whole }
+fn joined_of(whole: Option<Answer>) -> Joined
+    ensures { result ≡ joined_of whole }
 {
     match whole {
-        Some(answer) => Given::Whole(answer),
-        None => Given::Reply,
+        Some(answer) => Joined::Whole(answer),
+        None => Joined::Reply,
     }
 }
 
@@ -254,26 +254,26 @@ impl<'a, F: HubNames, G: Names> LoopDesks<'a, F, G> {
     {
         for _answer in 0..TURNS {
             match self.next_of(hub) {
-                Given::Nothing => return None,
-                Given::Reply => {}
-                Given::Whole(answer) => return Some(answer),
+                Joined::Nothing => return None,
+                Joined::Reply => {}
+                Joined::Whole(answer) => return Some(answer),
             }
         }
         None
     }
 
     /// Takes the next answer of the desk at the hub of this number.
-    fn next_of(&mut self, hub: usize) -> Given
+    fn next_of(&mut self, hub: usize) -> Joined
         requires { hub < 8 }
         ensures same { self.new ≡ self.old }
         ensures asker { IfWhole result (λ a. (session : ℕ) × (a.asker ≡ Asker.Session session)) }
         ensures answer { IfWhole result (λ a. AsksHubs F.opened_of self.old (request_value (arc_value a.request)) (answer_value a.outcome)) }
     {
         let Some(answer) = self.desks.answer_at(hub) else {
-            return Given::Nothing;
+            return Joined::Nothing;
         };
         match answer.asker {
-            Asker::Session(_) => Given::Whole(answer),
+            Asker::Session(_) => Joined::Whole(answer),
             Asker::Key {
                 request,
                 serial,
@@ -281,7 +281,7 @@ impl<'a, F: HubNames, G: Names> LoopDesks<'a, F, G> {
             } => {
                 put_at(&mut self.mixed, request, serial, key, answer.outcome);
                 self.ask_keys(request);
-                given_of(self.take_done(request))
+                joined_of(self.take_done(request))
             }
         }
     }

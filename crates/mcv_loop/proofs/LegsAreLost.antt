@@ -1,5 +1,5 @@
 -- Legs of a lost connection, one after the other.
-use Rattle.std.proofs.Common.{◌≡◌, ◌∙◌, ◌+◌, ◌≤◌, ◌++◌, ◌∷◌, ◌&&◌, [], List, Bool, true, false, cond, ap, append_assoc, arith, length, refl}
+use Rattle.std.proofs.Common.{◌≡◌, ◌∙◌, ◌+◌, ◌≤◌, ◌++◌, ◌∷◌, ◌&&◌, [], List, Bool, true, false, cond, ap, append_assoc, arith, length, refl, sym}
 use Rattle.std.proofs.lemmas.List.{append-nil}
 use Rattle.mcv_base.specs.declared.request.ServerId.{ServerId}
 use Rattle.mcv_turn.specs.declared.arrival.Arrival.{Arrival}
@@ -37,3 +37,28 @@ one_again loss s = short (goes_again loss s) s.flight
 
 pub one_lost : (server : ServerId) (loss : Loss) (oldest : Bool) (s : Sent) → length (lost_of server loss oldest (s ∷ [])) ≤ 1
 one_lost server loss oldest s = short_too (goes_again loss s) (lost_leg server oldest s.flight.leg)
+
+-- ---- one leg
+
+pub goes : (loss : Loss) (s : Sent) → goes_again loss s ≡ true → again_of loss (s ∷ []) ≡ s.flight ∷ []
+goes loss s e = ap (λ b. cond b (s.flight ∷ []) []) e
+
+pub stays : (loss : Loss) (s : Sent) → goes_again loss s ≡ false → again_of loss (s ∷ []) ≡ []
+stays loss s e = ap (λ b. cond b (s.flight ∷ []) []) e
+
+pub not_lost : (server : ServerId) (loss : Loss) (oldest : Bool) (s : Sent) → goes_again loss s ≡ true → lost_of server loss oldest (s ∷ []) ≡ []
+not_lost server loss oldest s e = ap (λ b. cond b [] (lost_leg server oldest s.flight.leg ∷ [])) e
+
+pub is_lost : (server : ServerId) (loss : Loss) (oldest : Bool) (s : Sent) → goes_again loss s ≡ false → lost_of server loss oldest (s ∷ []) ≡ lost_leg server oldest s.flight.leg ∷ []
+is_lost server loss oldest s e = ap (λ b. cond b [] (lost_leg server oldest s.flight.leg ∷ [])) e
+
+pub still_oldest : (oldest b : Bool) → b ≡ true → oldest ≡ (oldest && b)
+still_oldest true b e = sym e
+still_oldest false b e = refl
+
+pub oldest_no_more : (oldest b : Bool) → b ≡ false → false ≡ (oldest && b)
+oldest_no_more true b e = sym e
+oldest_no_more false b e = refl
+
+pub adds_none : {X : Type 0} (before more : List X) → more ≡ [] → before ≡ before ++ more
+adds_none before more e = sym (append-nil before) ∙ ap (λ xs. before ++ xs) (sym e)

@@ -15,9 +15,9 @@ loop-key-preserved c =
     let P : ℕ → Option Part → Type 0 = λ k o. o ≡ None in
     let before = c.loop-key.replies.items in
     let items : c.push.new.self.items ≡ before ++ None ∷ [] = c.in_ok-push.ensures.items in
-    let len : length before ≡ c.loop-key.key = search rules in
+    let len : length before ≡ c.loop-key._key = search rules in
     let Q : List (Option Part) → Type 0 = λ xs. (k : ℕ) (o : Option Part) → slice_get xs k ≡ Some o → P k o in
     record {
       many = grind (arith, common_steps);
-      none = subst Q (sym items) (at_push P before c.loop-key.key None len c.loop-key.invariant.none refl);
+      none = subst Q (sym items) (at_push P before c.loop-key._key None len c.loop-key.invariant.none refl);
     }

@@ -4,6 +4,6 @@ use Rattle.mcv_desks.proofs.mixed.no_replies.Given as goal
 
 abbrev pub invariant-loop-key : goal.invariant-loop-key
 invariant-loop-key l = record {
-  many : vec_len l.replies ≡ l.key;
+  many : vec_len l.replies ≡ l._key;
   none : (key : ℕ) (reply : Option Part) → slice_get l.replies.items key ≡ Some reply → reply ≡ None;
 }

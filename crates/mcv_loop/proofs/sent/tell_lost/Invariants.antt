@@ -8,7 +8,7 @@ abbrev pub invariant-loop-leg : goal.invariant-loop-leg
 invariant-loop-leg l = record {
   again : l.again.items ++ again_of l.loss l.sent.items ≡ l.fn.again.items ++ again_of l.loss l.fn.sent.items;
   lost : l.arrivals.items ++ lost_of l.server l.loss l.is_oldest l.sent.items ≡ l.fn.arrivals.items ++ lost_of l.server l.loss true l.fn.sent.items;
-  left : length l.sent.items + l.leg ≡ length l.fn.sent.items;
+  left : length l.sent.items + l._leg ≡ length l.fn.sent.items;
   arrivals_room : vec_len l.arrivals + length l.sent.items ≤ vec_capacity l.arrivals;
   again_room : vec_len l.again + length l.sent.items ≤ vec_capacity l.again;
 }

@@ -52,9 +52,9 @@ invariant_of-self-in-Key g c =
     some_left d.choice.now d.next (mixed_at d.mixed) (mixed_at c.put_at.new.mixed) (all_left d.mixed c.put_at.new.mixed c.put_at.ensures) (questions_at c.answer_at.new.self) answered
 
 pub returns-in-Key-clause-asker : goal.returns-in-Key-clause-asker
-returns-in-Key-clause-asker g c = if_whole _ c.take_done.result c.given_of.result c.given_of.ensures c.take_done.ensures.asker
+returns-in-Key-clause-asker g c = if_whole _ c.take_done.result c.joined_of.result c.joined_of.ensures c.take_done.ensures.asker
 
 pub returns-in-Key-clause-answer : goal.returns-in-Key-clause-answer
 returns-in-Key-clause-answer g c =
     let P : ℕ → Answer → Type 0 = λ hubs a. AsksHubs g.F.HubNames.opened_of hubs (request_value (arc_value a.request)) (answer_value a.outcome) in
-    if_whole (P c.args.self.now) c.take_done.result c.given_of.result c.given_of.ensures (subst (λ (hubs : ℕ). IfSome c.take_done.result (P hubs)) (c.ask_keys.ensures ∙ c.self.view_is) c.take_done.ensures.answer)
+    if_whole (P c.args.self.now) c.take_done.result c.joined_of.result c.joined_of.ensures (subst (λ (hubs : ℕ). IfSome c.take_done.result (P hubs)) (c.ask_keys.ensures ∙ c.self.view_is) c.take_done.ensures.answer)
