@@ -1,5 +1,5 @@
 -- Legs of a lost connection, one after the other.
-use Rattle.std.proofs.Common.{◌≡◌, ◌∙◌, ◌+◌, ◌≤◌, ◌++◌, ◌∷◌, ◌&&◌, [], List, Bool, true, false, cond, ap, append_assoc, arith, length, refl, sym}
+use Rattle.std.proofs.Common.{◌≡◌, ◌∙◌, ◌+◌, ◌≤◌, ◌++◌, ◌∷◌, ◌&&◌, [], List, Bool, true, false, cond, drop, ap, append_assoc, arith, length, refl, sym}
 use Rattle.std.proofs.lemmas.List.{append-nil}
 use Rattle.mcv_base.specs.declared.request.ServerId.{ServerId}
 use Rattle.mcv_turn.specs.declared.arrival.Arrival.{Arrival}
@@ -62,3 +62,8 @@ oldest_no_more false b e = refl
 
 pub adds_none : {X : Type 0} (before more : List X) → more ≡ [] → before ≡ before ++ more
 adds_none before more e = sym (append-nil before) ∙ ap (λ xs. before ++ xs) (sym e)
+
+-- the list is as it is without its first
+pub no_legs : (sent : List Sent) → sent ≡ drop 1 sent → sent ≡ []
+no_legs [] e = refl
+no_legs (s ∷ sent) e = let longer = ap length e in absurd (omega (arith, longer))

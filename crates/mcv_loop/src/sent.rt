@@ -1,6 +1,7 @@
 //! The legs in flight over a connection, and what becomes of them when it is lost.
 
-ghost use Rattle.std.specs.Prelude.{◌≡◌, ◌+◌, ◌≤◌, ◌++◌, ◌∷◌, ◌&&◌, [], true, length, vec_capacity, vec_len};
+ghost use Rattle.std.specs.Prelude.{◌≡◌, ◌+◌, ◌≤◌, ◌++◌, ◌∷◌, ◌&&◌, [], true, vec_capacity, vec_len};
+ghost use Rattle.std.specs.VecDeque.{deque_len};
 ghost use Rattle.mcv_loop.specs.Lost.{again_of, goes_again, lost_leg, lost_of};
 
 use crate::loss::{Loss, may_ask_again};
@@ -72,17 +73,14 @@ pub(crate) fn tell_lost(
     arrivals: &mut Vec<Arrival>,
     again: &mut Vec<Flight>,
 )
-    requires arrivals { vec_len arrivals.old + length sent.old.items ≤ vec_capacity arrivals.old }
-    requires again { vec_len again.old + length sent.old.items ≤ vec_capacity again.old }
+    requires arrivals { vec_len arrivals.old + deque_len sent.old ≤ vec_capacity arrivals.old }
+    requires again { vec_len again.old + deque_len sent.old ≤ vec_capacity again.old }
     ensures none { sent.new.items ≡ [] }
     ensures again { again.new.items ≡ again.old.items ++ again_of loss sent.old.items }
     ensures lost { arrivals.new.items ≡ arrivals.old.items ++ lost_of server loss true sent.old.items }
 {
     let mut is_oldest = true;
-    for _leg in 0..sent.len() {
-        let Some(one) = sent.pop_front() else {
-            break;
-        };
+    while let Some(one) = sent.pop_front() {
         is_oldest = tell_one(server, loss, one, is_oldest, arrivals, again);
     }
 }
