@@ -29,12 +29,12 @@ no_some : {A Z : Type 0} {x : A} → None ≡ Some x → Z
 no_some e = cc
 
 -- a request and its value have the same words
-words_mapped : {A : Type 0} (items : A → List ℕ) (op : Op) (o : Option A) → option_map (λ word. (op, word)) (option_map items o) ≡ option_map (λ word. (op, items word)) o
+words_mapped : {A : Type 0} (items : A → List ℕ) (op : Op) (o : Option A) → option_map {U = Op × List ℕ} (λ word. (op, word)) (option_map items o) ≡ option_map {U = Op × List ℕ} (λ word. (op, items word)) o
 words_mapped items op None = refl
 words_mapped items op (Some w) = refl
 
 same_words : (request : Request) (key : ℕ) → word_at (request_value request) key ≡ word_in request key
-same_words (Ask a) key = ap (option_map (λ word. (a.op, word))) (slice_get-map (λ word. word.items) a.keys.items key) ∙ words_mapped (λ word. word.items) a.op (slice_get a.keys.items key)
+same_words (Ask a) key = ap (option_map {U = Op × List ℕ} (λ word. (a.op, word))) (slice_get-map (λ word. word.items) a.keys.items key) ∙ words_mapped (λ word. word.items) a.op (slice_get a.keys.items key)
 same_words Version key = refl
 same_words Quit key = refl
 

@@ -43,7 +43,7 @@ first_of None = refl
 first_of (Some x) = refl
 
 only_word : (request : RequestValue) (key : ℕ) → word_at (only_key request key) 0 ≡ word_at request key
-only_word (asking ask) key = ap (option_map (λ word. (ask.op, word))) (first_of (slice_get ask.keys key))
+only_word (asking ask) key = ap (option_map {U = Op × List ℕ} (λ word. (ask.op, word))) (first_of (slice_get ask.keys key))
 only_word version key = refl
 only_word quit key = refl
 

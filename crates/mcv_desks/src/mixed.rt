@@ -1,6 +1,6 @@
 //! A request whose keys have several hubs.
 
-ghost use Rattle.std.specs.Prelude.{◌≡◌, ◌≤◌, ℕ, [], false, true, None, Some, Option, Err, List, Ok, IfErr, IfOk, IfSome, map, slice_get, vec_capacity, vec_len};
+ghost use Rattle.std.specs.Prelude.{◌≡◌, ◌≤◌, ℕ, [], false, true, None, Some, Option, Err, List, Ok, IfErr, IfOk, IfSome, length, map, slice_get, vec_capacity};
 ghost use Rattle.std.specs.Arc.{arc_value};
 ghost use Rattle.mcv_base.specs.declared.reply.Part.{Part as ReplyPart};
 ghost use Rattle.mcv_desks.specs.Desks.{AsksHubs};
@@ -12,7 +12,7 @@ use crate::one_key::requests_of_keys;
 use mcv_base::{Part, Request, key_words_have_one_reading};
 use mcv_hubs::HubNames;
 use mcv_session::DeskFault;
-use mcv_turn::{Answer, Asker};
+use mcv_turn::{Answer, Asker, key_count};
 use std::alloc::{AllocError, Global};
 use std::marker::{Model, PhantomData};
 use std::sync::Arc;
@@ -64,7 +64,7 @@ pub(crate) struct KeyAlone {
 
 /// So many places without a reply.
 fn no_replies(alloc: Global, count: usize) -> Result<Vec<Option<Part>>, AllocError>
-    ensures many { IfOk result (λ v. vec_len v ≡ count) }
+    ensures many { IfOk result (λ v. length v.items ≡ count) }
     ensures none { IfOk result (λ v. (key : ℕ) (reply : Option ReplyPart) → slice_get v.items key ≡ Some reply → reply ≡ None) }
 {
     let mut replies = Vec::with_capacity(alloc, count)?;
@@ -78,7 +78,7 @@ fn no_replies(alloc: Global, count: usize) -> Result<Vec<Option<Part>>, AllocErr
 fn joined(replies: Vec<Option<Part>>, parts: Vec<Part>) -> Vec<Part>
     requires each { (ps : List ReplyPart) × (replies.items ≡ map Some ps) }
     requires empty { parts.items ≡ [] }
-    requires room { vec_len replies ≤ vec_capacity parts }
+    requires room { length replies.items ≤ vec_capacity parts }
     ensures { map Some result.items ≡ replies.items }
 {
     let mut parts = parts;
@@ -121,7 +121,7 @@ fn outcome_of(
 ) -> Result<Vec<Part>, DeskFault>
     requires each { fault ≡ None → (ps : List ReplyPart) × (replies.items ≡ map Some ps) }
     requires empty { parts.items ≡ [] }
-    requires room { vec_len replies ≤ vec_capacity parts }
+    requires room { length replies.items ≤ vec_capacity parts }
     ensures ok { IfOk result (λ v. (fault ≡ None) × (map Some v.items ≡ replies.items)) }
     ensures err { IfErr result (λ f. fault ≡ Some f) }
 {
@@ -142,8 +142,9 @@ impl<F: HubNames> Mixed<F> {
     ) -> Result<Mixed<F>, AllocError>
         ensures { IfOk result (λ m. m ≡ record { request = record { serial = serial; session = session; hubs = hubs; asked = arc_value request }; answered = 0; fault = None }) }
     {
-        let of_keys = requests_of_keys(alloc, &request)?;
-        let count = of_keys.len();
+        let words: &Request = &request;
+        let of_keys = requests_of_keys(alloc, words)?;
+        let count = key_count(words);
         let replies = no_replies(alloc, count)?;
         let parts = Vec::with_capacity(alloc, count)?;
         Ok(Mixed {

@@ -1,5 +1,5 @@
 -- Legs of a lost connection, one after the other.
-use Rattle.std.proofs.Common.{◌≡◌, ◌∙◌, ◌+◌, ◌≤◌, ◌++◌, ◌∷◌, ◌&&◌, [], List, Bool, true, false, cond, drop, ap, append_assoc, arith, length, refl, sym}
+use Rattle.std.proofs.Common.{◌≡◌, ◌∙◌, ◌++◌, ◌∷◌, ◌&&◌, [], List, Bool, true, false, cond, drop, ap, append_assoc, arith, length, refl, sym}
 use Rattle.std.proofs.lemmas.List.{append-nil}
 use Rattle.mcv_base.specs.declared.request.ServerId.{ServerId}
 use Rattle.mcv_turn.specs.declared.arrival.Arrival.{Arrival}
@@ -23,20 +23,6 @@ one_is_lost false false x more before = append_assoc before (x ∷ []) (more fal
 
 pub lost_step : (server : ServerId) (loss : Loss) (oldest : Bool) (s : Sent) (rest : List Sent) (before : List Arrival) → (before ++ lost_of server loss oldest (s ∷ [])) ++ lost_of server loss (oldest && goes_again loss s) rest ≡ before ++ lost_of server loss oldest (s ∷ rest)
 lost_step server loss oldest s rest before = one_is_lost (goes_again loss s) oldest (lost_leg server oldest s.flight.leg) (λ o. lost_of server loss o rest) before
-
-short : {X : Type 0} (b : Bool) (x : X) → length (cond b (x ∷ []) []) ≤ 1
-short true x = omega arith
-short false x = omega arith
-
-short_too : {X : Type 0} (b : Bool) (x : X) → length (cond b [] (x ∷ [])) ≤ 1
-short_too true x = omega arith
-short_too false x = omega arith
-
-pub one_again : (loss : Loss) (s : Sent) → length (again_of loss (s ∷ [])) ≤ 1
-one_again loss s = short (goes_again loss s) s.flight
-
-pub one_lost : (server : ServerId) (loss : Loss) (oldest : Bool) (s : Sent) → length (lost_of server loss oldest (s ∷ [])) ≤ 1
-one_lost server loss oldest s = short_too (goes_again loss s) (lost_leg server oldest s.flight.leg)
 
 -- ---- one leg
 

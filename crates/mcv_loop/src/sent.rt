@@ -52,6 +52,7 @@ fn tell_one(
     ensures again { again.new.items ≡ again.old.items ++ again_of loss (one ∷ []) }
     ensures lost { arrivals.new.items ≡ arrivals.old.items ++ lost_of server loss is_oldest (one ∷ []) }
     ensures oldest { result ≡ (is_oldest && goes_again loss one) }
+    ensures few { (vec_len arrivals.new ≤ vec_len arrivals.old + 1) × (vec_len again.new ≤ vec_len again.old + 1) }
     ensures room { (vec_capacity arrivals.new ≡ vec_capacity arrivals.old) × (vec_capacity again.new ≡ vec_capacity again.old) }
 {
     let may_go = goes_again(&one, loss);

@@ -1,6 +1,4 @@
-use Rattle.std.proofs.Common.{◌≡◌, ◌∙◌, ◌++◌, ◌∷◌, [], List, Option, Some, ap, append_assoc, arith, map, map-id, rules, subst, sym}
-use Rattle.std.specs.Prelude.{IsSome}
-use Rattle.std.proofs.lemmas.Grind.{common_steps}
+use Rattle.std.proofs.Common.{◌≡◌, ◌∙◌, ◌++◌, ◌∷◌, [], List, Option, Some, ap, append_assoc, arith, length, length-append, map, map-id, rules, subst, sym}
 use Rattle.std.proofs.lemmas.Iterator.Adapters.{YieldsList-from_vec}
 use Rattle.std.proofs.lemmas.Iterator.Consumers.{YieldsList-end}
 use Rattle.std.proofs.lemmas.List.{map_push}
@@ -15,17 +13,28 @@ unwrap-requires c =
     let all : before ++ c.in-Some.reply ∷ behind ≡ c.args.replies.items = subst (λ (xs : List (Option Part)). before ++ xs ≡ c.args.replies.items) c.in-Some.ensures.steps.0 c.loop-reply.invariant.left in
     one_is_there c.requires.each.0 before behind c.in-Some.reply (all ∙ c.requires.each.1)
 
+pub loop-reply-init : goal.loop-reply-init
+loop-reply-init c =
+    let rest : c.into_iter-reply-iterator.result.rest.items ≡ c.args.replies.items = search rules in
+    let left = ap length rest in
+    let empty = ap length c.requires.empty in
+    let room = c.requires.room in
+    record { so_far = ap (map Some) c.requires.empty; left = rest; room = omega (arith, left, empty, room) }
+
 pub loop-reply-preserved : goal.loop-reply-preserved
 loop-reply-preserved c =
     let before = c.loop-reply.invariant in
     let left = ap length c.in-Some.ensures.steps.0 in
     let room = before.room in
+    let items = ap length c.push_reserved.ensures.items in
+    let more = length-append c.loop-reply.parts.items (c.unwrap.result ∷ []) in
+    let capacity = c.push_reserved.ensures.capacity in
     record {
       so_far =
       ap (map Some) c.push_reserved.ensures.items ∙ map_push Some c.loop-reply.parts.items c.unwrap.result ∙ ap (λ (xs : List (Option Part)). xs ++ Some c.unwrap.result ∷ []) before.so_far
       ∙ ap (λ (o : Option Part). c.loop-reply.yielded ++ o ∷ []) (sym c.unwrap.ensures);
       left = append_assoc c.loop-reply.yielded (c.in-Some.reply ∷ []) c.next.new.self.rest.items ∙ ap (λ (xs : List (Option Part)). c.loop-reply.yielded ++ xs) (sym c.in-Some.ensures.steps.0) ∙ before.left;
-      room = grind (arith, common_steps);
+      room = omega (arith, room, left, items, more, capacity);
     }
 
 pub returns : goal.returns

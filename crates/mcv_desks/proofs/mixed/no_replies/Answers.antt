@@ -21,3 +21,8 @@ loop-key-preserved c =
       many = grind (arith, common_steps);
       none = subst Q (sym items) (at_push P before c.loop-key._key None len c.loop-key.invariant.none refl);
     }
+
+pub returns : goal.returns
+returns c =
+    let so_far = c.loop-key.invariant.many in
+    record { many = search (rules, so_far); none = c.loop-key.invariant.none }

@@ -11,9 +11,9 @@ loop-key-init c =
 pub loop-key-preserved : goal.loop-key-preserved
 loop-key-preserved c =
     let P : ℕ → Type 0 = λ k. IsHubOf c.args.choice.now c.args.request.now k c.hub_of_key-hub.result in
-    let same : IsHubOf c.args.choice.now c.args.request.now c.loop-key.key c.hub_of_key-hub.result = subst (λ hub. IsHubOf c.args.choice.now c.args.request.now c.loop-key.key hub) c.if-hub_of_key.false c.hub_of_key.ensures.hub in
+    let same : IsHubOf c.args.choice.now c.args.request.now c.loop-key.key c.hub_of_key-hub.result = subst (λ hub. IsHubOf c.args.choice.now c.args.request.now c.loop-key.key hub) c.if-hub_of_key-hub.false c.hub_of_key.ensures.hub in
     below_more P c.loop-key.key c.loop-key.invariant same
 
 pub returns-clause-some : goal.returns-clause-some
 returns-clause-some c =
-    all_have_hub c.key_words_have_one_reading.ensures.one c.key_words_have_one_reading.ensures.no_rest c.args.choice.now c.args.request.now c.hub_of_key-hub.result c.loop-key.key c.loop-key.invariant (omega (arith, c.key_count.ensures))
+    all_have_hub c.key_words_have_one_reading.ensures.one c.key_words_have_one_reading.ensures.no_rest c.args.choice.now c.args.request.now c.hub_of_key-hub.result c.loop-key.key c.loop-key.invariant (omega (arith, c.key_count-key-end.ensures))

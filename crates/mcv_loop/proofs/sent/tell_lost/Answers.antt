@@ -1,10 +1,10 @@
-use Rattle.std.proofs.Common.{◌≡◌, ◌∙◌, ◌+◌, ◌++◌, ◌∷◌, ◌&&◌, [], Bool, List, ap, arith, length, length-append, refl, subst, sym}
+use Rattle.std.proofs.Common.{◌≡◌, ◌∙◌, ◌++◌, ◌∷◌, ◌&&◌, [], Bool, List, ap, arith, refl, sym}
 use Rattle.std.proofs.lemmas.List.{append-nil}
 use Rattle.mcv_turn.specs.declared.arrival.Arrival.{Arrival}
 use Rattle.mcv_turn.specs.declared.flight.Flight.{Flight}
 use Rattle.mcv_loop.specs.Lost.{again_of, goes_again, lost_of}
 use Rattle.mcv_loop.specs.declared.sent.Sent.{Sent}
-use Rattle.mcv_loop.proofs.LegsAreLost.{again_step, lost_step, no_legs, one_again, one_lost}
+use Rattle.mcv_loop.proofs.LegsAreLost.{again_step, lost_step, no_legs}
 use Rattle.mcv_loop.proofs.sent.tell_lost.Goals as goal
 
 pub loop-one-init : goal.loop-one-init
@@ -29,12 +29,7 @@ loop-one-preserved c =
     let items : c.loop-one.sent.items ≡ one ∷ rest = c.in-Some.ensures.items in
     let many = c.in-Some.ensures.len in
     let told = c.tell_one.ensures in
-    let few_again = one_again loss one in
-    let few_lost = one_lost server loss oldest one in
-    let more_again = ap length told.again in
-    let more_lost = ap length told.lost in
-    let sum_again = length-append c.loop-one.again.items (again_of loss (one ∷ [])) in
-    let sum_lost = length-append c.loop-one.arrivals.items (lost_of server loss oldest (one ∷ [])) in
+    let few = told.few in
     let room = told.room in
     let arrivals_room = before.arrivals_room in
     let again_room = before.again_room in
@@ -44,8 +39,8 @@ loop-one-preserved c =
       lost =
       ap (λ (b : Bool). c.tell_one.new.arrivals.items ++ lost_of server loss b rest) told.oldest ∙ ap (λ (xs : List Arrival). xs ++ lost_of server loss (oldest && goes_again loss one) rest) told.lost ∙ lost_step server loss oldest one rest c.loop-one.arrivals.items
       ∙ ap (λ (xs : List Sent). c.loop-one.arrivals.items ++ lost_of server loss oldest xs) (sym items) ∙ before.lost;
-      arrivals_room = omega (arith, many, few_lost, more_lost, sum_lost, room.0, arrivals_room);
-      again_room = omega (arith, many, few_again, more_again, sum_again, room.1, again_room);
+      arrivals_room = omega (arith, many, few.0, room.0, arrivals_room);
+      again_room = omega (arith, many, few.1, room.1, again_room);
     }
 
 pub loop-one-smaller : goal.loop-one-smaller
