@@ -121,7 +121,10 @@ impl Line {
         let State::Open { upstream, sent, .. } = &mut self.state else {
             return Err(flight);
         };
-        if sent.reserve(1).is_err() || upstream.send(flight.leg, &flight.request).is_err() {
+        let Ok(()) = sent.reserve(1) else {
+            return Err(flight);
+        };
+        if upstream.send(flight.leg, &flight.request).is_err() {
             return Err(flight);
         }
         sent.push_back_reserved(Sent {
