@@ -195,7 +195,11 @@ impl<'a, F: HubNames, G: Names> LoopDesks<'a, F, G> {
         let number = self.mixed.insert(mixed)?;
         self.next = next;
         self.ask_keys(number);
-        Ok(())
+        // Where there was no memory to ask the first key, no answer will come.
+        match self.take_done(number) {
+            Some(_) => Err(AllocError),
+            None => Ok(()),
+        }
     }
 
     /// Asks further keys of a request of several hubs, each alone at its hub.
