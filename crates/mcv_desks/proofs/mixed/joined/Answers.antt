@@ -31,8 +31,8 @@ loop-reply-preserved c =
     let capacity = c.push_reserved.ensures.capacity in
     record {
       so_far =
-      ap (map Some) c.push_reserved.ensures.items ∙ map_push Some c.loop-reply.parts.items c.unwrap.result ∙ ap (λ (xs : List (Option Part)). xs ++ Some c.unwrap.result ∷ []) before.so_far
-      ∙ ap (λ (o : Option Part). c.loop-reply.yielded ++ o ∷ []) (sym c.unwrap.ensures);
+          ap (map Some) c.push_reserved.ensures.items ∙ map_push Some c.loop-reply.parts.items c.unwrap.result ∙ ap (λ (xs : List (Option Part)). xs ++ Some c.unwrap.result ∷ []) before.so_far
+          ∙ ap (λ (o : Option Part). c.loop-reply.yielded ++ o ∷ []) (sym c.unwrap.ensures);
       left = append_assoc c.loop-reply.yielded (c.in-Some.reply ∷ []) c.next.new.self.rest.items ∙ ap (λ (xs : List (Option Part)). c.loop-reply.yielded ++ xs) (sym c.in-Some.ensures.steps.0) ∙ before.left;
       room = omega (arith, room, left, items, more, capacity);
     }

@@ -35,10 +35,10 @@ loop-one-preserved c =
     let again_room = before.again_room in
     record {
       again =
-      ap (λ (xs : List Flight). xs ++ again_of loss rest) told.again ∙ again_step loss one rest c.loop-one.again.items ∙ ap (λ (xs : List Sent). c.loop-one.again.items ++ again_of loss xs) (sym items) ∙ before.again;
+          ap (λ (xs : List Flight). xs ++ again_of loss rest) told.again ∙ again_step loss one rest c.loop-one.again.items ∙ ap (λ (xs : List Sent). c.loop-one.again.items ++ again_of loss xs) (sym items) ∙ before.again;
       lost =
-      ap (λ (b : Bool). c.tell_one.new.arrivals.items ++ lost_of server loss b rest) told.oldest ∙ ap (λ (xs : List Arrival). xs ++ lost_of server loss (oldest && goes_again loss one) rest) told.lost ∙ lost_step server loss oldest one rest c.loop-one.arrivals.items
-      ∙ ap (λ (xs : List Sent). c.loop-one.arrivals.items ++ lost_of server loss oldest xs) (sym items) ∙ before.lost;
+          ap (λ (b : Bool). c.tell_one.new.arrivals.items ++ lost_of server loss b rest) told.oldest ∙ ap (λ (xs : List Arrival). xs ++ lost_of server loss (oldest && goes_again loss one) rest) told.lost ∙ lost_step server loss oldest one rest c.loop-one.arrivals.items
+          ∙ ap (λ (xs : List Sent). c.loop-one.arrivals.items ++ lost_of server loss oldest xs) (sym items) ∙ before.lost;
       arrivals_room = omega (arith, many, few.0, room.0, arrivals_room);
       again_room = omega (arith, many, few.1, room.1, again_room);
     }
