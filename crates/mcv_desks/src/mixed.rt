@@ -240,7 +240,13 @@ impl<F: HubNames> Mixed<F> {
     pub(crate) fn is_done(&self) -> bool
         ensures { result ≡ true → IsDone self.now }
     {
-        self.answered == self.asked && (self.fault.is_some() || self.asked == self.of_keys.len())
+        if self.answered != self.asked {
+            return false;
+        }
+        if self.asked == self.of_keys.len() {
+            return true;
+        }
+        self.fault.is_some()
     }
 
     /// Its answer, once it is done.
