@@ -30,7 +30,9 @@ def closing(s, i, inside_code=True):
 CLAUSE = re.compile(r"(requires|ensures|ghost)\*?(\s+\w+)?\s*(:\s*)?$")
 
 def stub(s):
-    s = re.sub(r"#\[cycle\(\w+\)\]\n\s*", "", s)
+    s = re.sub(r"#\[cycle\(\w+\)\]\n\s*(?=(pub(\([a-z]+\))? )?fn\b)", "", s)
+    s = s.replace("#![tactic(auto)]", "#![tactic(none)]")
+    s = re.sub(r"#\[tactic\([^\]]*\]\n", "", s)
     out, i = [], 0
     pat = re.compile(r"\bfn\s+\w+")
     while True:
@@ -75,7 +77,7 @@ if __name__ == "__main__":
     for name in names:
         folder = f"{to}/crates/{name}"
         shutil.rmtree(folder, ignore_errors=True)
-        shutil.copytree(f"{clone}/crates/{name}", folder, ignore=lambda at, found: [it for it in found if it in ("out", "must-fail", "Answers.antt", "Invariants.antt", "Proof.antt")])
+        shutil.copytree(f"{clone}/crates/{name}", folder, ignore=lambda at, found: [it for it in found if it in ("out", "must-fail") or "/proofs" in at and it in ("Answers.antt", "Invariants.antt", "Proof.antt")])
         for at, _, files in os.walk(f"{folder}/src"):
             for f in files:
                 if f.endswith(".rt"):
