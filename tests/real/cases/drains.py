@@ -58,6 +58,17 @@ def deletes_asynchronously(servers):
     return {"pools": {"A": {"servers": servers}}, "route": route}
 
 
+def with_room_for_two(machine, spool, admin):
+    """A proxy with a server that is away, and a spool that takes two records."""
+    return machine.mcv(one_pool(["127.0.0.1:%d" % free_port()]), before=LIMITED, spool=spool, admin=admin)
+
+
+def spool_two(client):
+    """Two deletes go to the spool."""
+    for key in [b"a", b"b"]:
+        client.ask(b"delete " + key + b"\r\n", b"NOT_FOUND\r\n")
+
+
 @case()
 def an_operator_asks_for_health(machine):
     admin = admin_address()
@@ -94,11 +105,10 @@ def an_operator_who_says_nothing_keeps_no_other_waiting(machine):
 
 @case()
 def a_spool_that_refuses_is_no_health(machine):
-    admin, spool = admin_address(), machine.path("mcv.spool")
-    mcv = machine.mcv(one_pool(["127.0.0.1:%d" % free_port()]), before=LIMITED, spool=spool, admin=admin)
+    admin = admin_address()
+    mcv = with_room_for_two(machine, machine.path("mcv.spool"), admin)
     with mcv.client() as client:
-        for key in [b"a", b"b"]:
-            client.ask(b"delete " + key + b"\r\n", b"NOT_FOUND\r\n")
+        spool_two(client)
         expect(asked(admin, "GET", "/health"), (200, b"ok\n"))
         client.ask(b"delete c\r\n", FAILED)
         wait_for(lambda: asked(admin, "GET", "/health") == (503, b"the spool refuses records\n"), "the spool is said to refuse")
@@ -173,10 +183,9 @@ def what_isnt_sent_in_time_goes_to_the_spool(machine):
 def a_drain_ends_where_the_spool_refuses(machine):
     """What the spool refused was answered by an error, and goes with the process."""
     admin, spool = admin_address(), machine.path("mcv.spool")
-    mcv = machine.mcv(one_pool(["127.0.0.1:%d" % free_port()]), before=LIMITED, spool=spool, admin=admin)
+    mcv = with_room_for_two(machine, spool, admin)
     with mcv.client() as client:
-        for key in [b"a", b"b"]:
-            client.ask(b"delete " + key + b"\r\n", b"NOT_FOUND\r\n")
+        spool_two(client)
         client.ask(b"delete c\r\n", FAILED)
     expect(asked(admin, "POST", "/drain?seconds=1"), (200, b"draining\n"))
     expect(mcv.last_lines(), (b"mcv closed calls 3\n", 0))
