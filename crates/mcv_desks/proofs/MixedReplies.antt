@@ -1,12 +1,12 @@
 -- Replies to the keys of a request, each of its hub.
-use Rattle.std.proofs.Common.{◌≡◌, ◌∙◌, ◌++◌, ◌+◌, ◌<◌, ◌≤◌, ℕ, zero, suc, Bool, Bor, true, false, not, List, [], ◌∷◌, Vec, Global, Option, None, Some, Result, Ok, Err, IfErr, IfOk, inl, inr, ap, arith, length, map, option_to_list, refl, subst, sym}
-use Rattle.std.specs.Prelude.{IfSome, IsSome, count_by, is_none, is_some, option_map, slice_get, slice_set}
+use Rattle.std.proofs.Common.{◌≡◌, ◌∙◌, ◌++◌, ◌+◌, ◌≤◌, ℕ, zero, suc, Bool, Bor, true, false, not, List, [], ◌∷◌, Vec, Global, Option, None, Some, Result, Ok, Err, IfErr, IfOk, inl, inr, ap, arith, length, map, option_to_list, refl, subst, sym}
+use Rattle.std.specs.Prelude.{IfSome, IsSome, cond, count_by, is_none, is_some, option_map, slice_get, slice_set}
 use Rattle.std.specs.Arc.{arc_value}
 use Rattle.std.specs.Option.{unwrap_or}
 use Rattle.std.specs.declared.sync.Arc.{Arc}
 use Rattle.std.specs.List.{All}
 use Rattle.std.proofs.lemmas.List.{length-map, length-set}
-use Rattle.std.proofs.lemmas.List.Sums.{count_by-le-length}
+use Rattle.std.proofs.lemmas.List.Sums.{count_by-le-length, sum_by-cons}
 use Rattle.std.specs.Slice.{IsItemAt}
 use Rattle.std.proofs.lemmas.Option.{slice_get-get_or, slice_get_within}
 use Rattle.mcv_base.specs.Reply.{ReplyValue, part_value}
@@ -22,7 +22,7 @@ use Rattle.mcv_session.specs.declared.desk.DeskFault.TheVariants.{Memory}
 use Rattle.mcv_text.specs.Request.{RequestValue, asking, version, quit, request_value}
 use Rattle.mcv_turn.specs.Answers.{IsAnswer, IsFor, WasTaken, word_at}
 use Rattle.mcv_turn.proofs.Routed.{NoRestReadsEmpty, OneReading}
-use Rattle.mcv_desks.specs.Desks.{AreForKeys, AreOfHubs, AsksHubs, IsForOf, WasTakenOf}
+use Rattle.mcv_desks.specs.Desks.{AreOfHubs, AsksHubs, IsForOf, WasTakenOf}
 use Rattle.mcv_desks.specs.Mixed.{IsFilled, IsKeyAlone, IsKeyAnswer, IsMixed, IsReplyTo, MixedRequest}
 use Rattle.mcv_desks.specs.OneKey.{only_key}
 use Rattle.mcv_desks.proofs.KeysOfHubs.{all_by_index, at_index, hub_of_reply}
@@ -84,14 +84,29 @@ module _ (one : OneReading) (empty : NoRestReadsEmpty) (opened_of : ℕ → Core
 
 -- ---- the places for the replies
 
+some_counts : {X : Type 0} (x : X) (places : List (Option X)) → count_by is_some (Some x ∷ places) ≡ 1 + count_by is_some places
+some_counts {X = X} x places = sum_by-cons (λ (o : Option X). cond (is_some o) 1 0) (Some x) places
+
+none_counts : {X : Type 0} (places : List (Option X)) → count_by is_some (None ∷ places) ≡ 0 + count_by is_some places
+none_counts {X = X} places = sum_by-cons (λ (o : Option X). cond (is_some o) 1 0) None places
+
+filled_first : {X : Type 0} (x : X) (places : List (Option X)) → count_by is_some (Some x ∷ places) ≡ count_by is_some (None ∷ places) + 1
+filled_first x places = omega (arith, some_counts x places, none_counts places)
+
+filled_behind_none : {X : Type 0} (old new : List (Option X)) → count_by is_some new ≡ count_by is_some old + 1 → count_by is_some (None ∷ new) ≡ count_by is_some (None ∷ old) + 1
+filled_behind_none old new h = omega (arith, h, none_counts old, none_counts new)
+
+filled_behind_some : {X : Type 0} (y : X) (old new : List (Option X)) → count_by is_some new ≡ count_by is_some old + 1 → count_by is_some (Some y ∷ new) ≡ count_by is_some (Some y ∷ old) + 1
+filled_behind_some y old new h = omega (arith, h, some_counts y old, some_counts y new)
+
 -- one more place is filled
 pub one_more_there : {X : Type 0} (places : List (Option X)) (key : ℕ) (old : Option X) (x : X) → slice_get places key ≡ Some old → is_none old ≡ true → count_by is_some (slice_set places key (Some x)) ≡ count_by is_some places + 1
 one_more_there [] key old x there vacant = cc
-one_more_there (None ∷ places) zero old x there vacant = omega arith
+one_more_there (None ∷ places) zero old x there vacant = filled_first x places
 one_more_there (Some y ∷ places) zero None x there vacant = cc
 one_more_there (Some y ∷ places) zero (Some z) x there vacant = cc
-one_more_there (None ∷ places) (suc key) old x there vacant = one_more_there places key old x there vacant
-one_more_there (Some y ∷ places) (suc key) old x there vacant = let so_far = one_more_there places key old x there vacant in omega (arith, so_far)
+one_more_there (None ∷ places) (suc key) old x there vacant = filled_behind_none places (slice_set places key (Some x)) (one_more_there places key old x there vacant)
+one_more_there (Some y ∷ places) (suc key) old x there vacant = filled_behind_some y places (slice_set places key (Some x)) (one_more_there places key old x there vacant)
 
 -- what stands in a place
 pub in_place : {X : Type 0} (P : ℕ → X → Type 0) (places : List (Option X)) (key : ℕ) (x : X) → ((k : ℕ) (y : X) → slice_get places k ≡ Some (Some y) → P k y) → P key x → (k : ℕ) (y : X) → slice_get (slice_set places key (Some x)) k ≡ Some (Some y) → P k y
@@ -104,9 +119,9 @@ in_place P (p ∷ places) (suc key) x all here (suc k) y e = in_place (λ n z. P
 -- as many are there as there are places: each is
 pub all_there : {X : Type 0} (places : List (Option X)) → length places ≤ count_by is_some places → (xs : List X) × (places ≡ map Some xs)
 all_there [] h = ([], refl)
-all_there (None ∷ places) h = let most = count_by-le-length is_some places in absurd (omega (arith, most, h))
+all_there (None ∷ places) h = let most = count_by-le-length is_some places in absurd (omega (arith, most, h, none_counts places))
 all_there (Some x ∷ places) h =
-    let few : length places ≤ count_by is_some places = omega (arith, h) in
+    let few : length places ≤ count_by is_some places = omega (arith, h, some_counts x places) in
     let rest = all_there places few in
     (x ∷ rest.0, ap (λ ps. Some x ∷ ps) rest.1)
 
@@ -190,7 +205,7 @@ either_holds P None x h k = k
 either_holds P (Some y) x h k = h
 
 pub holds_of : {A : Type 0} (P : A → Type 0) (o : Option A) (x : A) → o ≡ Some x → IfSome o P → P x
-holds_of P o x e h = subst (λ (p : Option A). IfSome p P) e h
+holds_of {A = A} P o x e h = subst (λ (p : Option A). IfSome p P) e h
 
 -- a refusal of its key is one of the request
 pub key_refused : (opened_of : ℕ → CoreView) (q : MixedRequest) (key : ℕ) (fault : DeskFault) → IsKeyAnswer opened_of q key (Err fault) → AsksHubs opened_of q.hubs (request_value q.asked) (Err fault)

@@ -1,11 +1,11 @@
 -- Requests with keys of several hubs that come, stay and go.
 use Rattle.slab.specs.Slab.{Slab, Updates, get, with_value}
 use Rattle.slab.proofs.SlabLemmas.{Updates-with_value}
-use Rattle.std.proofs.Common.{◌≡◌, ◌∙◌, ◌⊎◌, ℕ, inl, inr, List, [], Option, None, Some, ap, refl, subst, sym}
+use Rattle.std.proofs.Common.{◌≡◌, ◌∙◌, ℕ, inl, inr, List, [], Option, None, Some, ap, refl, subst, sym}
 use Rattle.std.proofs.lemmas.Bool.{cases_eq}
 use Rattle.std.specs.Prelude.{IsSome, option_map}
 use Rattle.mcv_desks.specs.Asked.{AreSameMixed, AreSomeLeft, mixed_at}
-use Rattle.mcv_desks.specs.Mixed.{MixedRequest, MixedView}
+use Rattle.mcv_desks.specs.Mixed.{MixedView}
 
 pub none_changes : (old new : Slab MixedView) → new ≡ old → AreSameMixed old new
 none_changes old new same = λ number. ap (λ (s : Slab MixedView). mixed_at s number) same

@@ -1,5 +1,5 @@
 -- A request whose keys have several hubs, each of which is asked alone (own).
-use Rattle.std.specs.Prelude.{◌≡◌, ◌<◌, ◌≤◌, [], ℕ, List, Option, None, Some, Result, Ok, Err, IfSome, Vec, count_by, is_some, length, slice_get, slice_set, vec_capacity}
+use Rattle.std.specs.Prelude.{◌≡◌, ◌<◌, ◌≤◌, [], ℕ, List, Option, None, Some, Result, Err, IfSome, Vec, count_by, is_some, length, slice_get, slice_set, vec_capacity}
 use Rattle.std.specs.declared.alloc.Global.{Global}
 use Rattle.std.specs.declared.sync.Arc.{Arc}
 use Rattle.mcv_base.specs.Reply.{ReplyValue, part_value}

@@ -33,6 +33,11 @@ pub(crate) fn accepted_of(rt: &(impl AllocGlobal + Abort), text: &str) -> Arc<Ac
     }
 }
 
+/// The server of this number.
+fn server_of(rt: &impl Abort, number: usize) -> ServerId {
+    ServerId(u32::try_from(number).ok().expect(rt, "a server"))
+}
+
 /// A hub over these routes, of which each server may have so many legs in flight.
 pub(crate) fn hub_of<B: HubLedger, T: Ledger>(
     rt: &(impl AllocGlobal + Abort),
@@ -184,14 +189,15 @@ impl<'a, B: HubLedger, T: Ledger> Scene<'a, B, T> {
 
     /// Gives an answer to the session that asked.
     fn give(&mut self, rt: &impl Abort, answer: Answer) {
-        let Asker::Session(number) = answer.asker else {
+        let Answer { asker, outcome, .. } = answer;
+        let Asker::Session(number) = asker else {
             panic!(rt; "no session asked");
         };
         let client = self.clients.get_mut(number as usize).expect(rt, "a client");
         if !client.is_there {
             return;
         }
-        let given = match answer.outcome {
+        let given = match outcome {
             Ok(parts) => client.machine.answer(parts.as_slice()),
             Err(fault) => client.machine.refuse(fault),
         };
@@ -290,7 +296,7 @@ impl<'a, B: HubLedger, T: Ledger> Scene<'a, B, T> {
     fn land(&mut self, rt: &(impl AllocGlobal + Abort), server: usize, landed: Vec<Landed>) {
         for came in landed {
             let Landed { leg, reply } = came;
-            let arrival = Arrival::landed(rt.alloc(), ServerId(server as u32), leg, reply);
+            let arrival = Arrival::landed(rt.alloc(), server_of(rt, server), leg, reply);
             self.came.arrivals.push(arrival).ok().expect(rt, "memory");
         }
     }
@@ -307,7 +313,7 @@ impl<'a, B: HubLedger, T: Ledger> Scene<'a, B, T> {
             lost.push(leg).expect(rt, "memory");
         }
         for (number, leg) in lost.iter().enumerate() {
-            let arrival = Arrival::lost_as(ServerId(server as u32), *leg, number);
+            let arrival = Arrival::lost_as(server_of(rt, server), *leg, number);
             self.came.arrivals.push(arrival).ok().expect(rt, "memory");
         }
         lost.len()

@@ -23,6 +23,19 @@ pub(crate) struct Server {
     pub(crate) says: Vec<u8>,
 }
 
+/// Answers a get of this value.
+fn say_value(rt: &impl Abort, alloc: Global, value: &Value, says: &mut Vec<u8>) {
+    let size = value.body.len();
+    let line = format!(in alloc; " 0 {size}\r\n").expect(rt, "memory");
+    says.extend_from_slice(b"VALUE ").expect(rt, "memory");
+    says.extend_from_slice(value.key.as_slice())
+        .expect(rt, "memory");
+    says.extend_from_slice(line.as_bytes()).expect(rt, "memory");
+    says.extend_from_slice(value.body.as_slice())
+        .expect(rt, "memory");
+    says.extend_from_slice(b"\r\nEND\r\n").expect(rt, "memory");
+}
+
 impl Server {
     pub(crate) fn new(alloc: Global) -> Server {
         Server {
@@ -67,20 +80,9 @@ impl Server {
     }
 
     fn get(&mut self, rt: &impl Abort, key: &[u8]) {
-        let alloc = self.alloc;
         for value in self.values.iter() {
             if value.key.as_slice() == key {
-                let size = value.body.len();
-                let line = format!(in alloc; " 0 {size}\r\n").expect(rt, "memory");
-                for part in [
-                    b"VALUE ".as_slice(),
-                    key,
-                    line.as_bytes(),
-                    value.body.as_slice(),
-                    b"\r\nEND\r\n".as_slice(),
-                ] {
-                    self.says.extend_from_slice(part).expect(rt, "memory");
-                }
+                say_value(rt, self.alloc, value, &mut self.says);
                 return;
             }
         }

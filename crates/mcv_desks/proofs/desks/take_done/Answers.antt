@@ -1,5 +1,9 @@
-use Rattle.std.proofs.Common.{◌∙◌, ap, refl, subst, sym}
-use Rattle.mcv_desks.specs.Mixed.{IsDone, MixedView}
+use Rattle.std.proofs.Common.{◌∙◌, refl, subst, sym}
+use Rattle.mcv_base.specs.declared.request.Request.{Request}
+use Rattle.mcv_session.specs.Desk.{answer_value}
+use Rattle.mcv_text.specs.Request.{request_value}
+use Rattle.mcv_desks.specs.Desks.{AsksHubs}
+use Rattle.mcv_desks.specs.Mixed.{IsDone}
 use Rattle.mcv_desks.proofs.MixedRequests.{all_left, is_there, none_changes, one_left, same_value}
 use Rattle.mcv_desks.proofs.desks.take_done.Goals as goal
 
@@ -13,14 +17,14 @@ pub returns-in_default-try_remove-clause-left : goal.returns-in_default-try_remo
 returns-in_default-try_remove-clause-left g c = all_left c.args.mixed.now c.try_remove.new.self (none_changes c.args.mixed.now c.try_remove.new.self c.in_default-try_remove.ensures.absent)
 
 pub into_answer-requires : goal.into_answer-requires
-into_answer-requires g c = subst IsDone (same_value c.in-Some.one.now c.in-Some-try_remove.done (c.in-Some.ensures ∙ sym c.in-Some-try_remove.ensures.value)) (c.is_done.ensures c.if-is_done.true)
+into_answer-requires g c = subst IsDone (same_value c.in-Some.one.now c.in-Some-try_remove.done (c.in-Some.ensures ∙ sym c.in-Some-try_remove.ensures.value)) (c.is_done.ensures c.if-not-is_done.false)
 
 pub returns-clause-answer : goal.returns-clause-answer
 returns-clause-answer g c = record {
   its = c.in-Some-try_remove.done.request;
   there = is_there c.args.mixed.now c.args.number c.in-Some-try_remove.done (sym c.in-Some-try_remove.ensures.value);
   to = c.into_answer.ensures.asker;
-  asks = c.into_answer.ensures.answer;
+  asks = subst (λ (r : Request). AsksHubs g.F.HubNames.opened_of c.in-Some-try_remove.done.request.hubs (request_value r) (answer_value c.into_answer.result.outcome)) (sym c.into_answer.ensures.request) c.into_answer.ensures.answer;
 }
 
 pub returns-clause-left : goal.returns-clause-left

@@ -1,4 +1,4 @@
-use Rattle.std.proofs.Common.{◌∙◌, None, Option, Some, ap}
+use Rattle.std.proofs.Common.{◌∙◌, Some, ap}
 use Rattle.mcv_desks.proofs.MixedReplies.{item_there, none_of}
 use Rattle.mcv_desks.proofs.mixed.is_vacant.Goals as goal
 

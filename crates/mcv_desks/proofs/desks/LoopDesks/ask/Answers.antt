@@ -13,5 +13,6 @@ pub invariant_of-self : goal.invariant_of-self
 invariant_of-self g c =
     let d = c.self.inside in
     let lower = c.in-Some.ensures.there in
+    let most = c.one_hub.ensures.most in
     let have = subst (λ (r : Request). HaveHub d.choice.now (request_value r) c.in-Some.hub) c.deref.ensures c.in-Some.ensures.some in
-    desks_asked d.choice.now d.next (mixed_at d.mixed) (questions_at d.desks) (questions_at c.ask_at.new.self) c.in-Some.hub (ask_at-requires g c) c.ask_at.result _ _ (lower, have) c.ask_at.ensures c.self.invariant
+    desks_asked d.choice.now d.next (mixed_at d.mixed) (questions_at d.desks) (questions_at c.ask_at.new.self) c.in-Some.hub (omega (arith, lower, most)) c.ask_at.result _ _ (lower, have) c.ask_at.ensures c.self.invariant

@@ -20,5 +20,5 @@ invariant_of-self-2 g c =
     let number = c.in_ok-number.number in
     let is = c.in_ok-mixed.ensures in
     let updates = c.in_ok-number.ensures.updates in
-    one_more d.choice.now d.next c.in-Some.next (mixed_at d.mixed) (mixed_at c.insert.new.self) mixed.request number c.in-Some.ensures (ap (λ (m : MixedView). m.request.serial) is)
+    one_more d.choice.now d.next c.in-Some.next (mixed_at d.mixed) (mixed_at c.insert.new.self) mixed.request number c.in-Some.ensures.1 (ap (λ (m : MixedView). m.request.serial) is)
     (ap (λ (m : MixedView). m.request.hubs) is ∙ c.hubs-hubs.ensures.hubs) (is_there c.insert.new.self number mixed updates.changed) (one_came d.mixed c.insert.new.self number mixed updates) (questions_at d.desks) c.self.invariant

@@ -5,7 +5,7 @@ use Rattle.mcv_session.specs.Desk.{answer_value}
 use Rattle.mcv_text.specs.Request.{request_value}
 use Rattle.mcv_turn.specs.declared.answer.Answer.{Answer}
 use Rattle.mcv_turn.specs.declared.answer.Asker.{Asker}
-use Rattle.mcv_desks.specs.Asked.{IfWhole, IsAskedOf, mixed_at, questions_at}
+use Rattle.mcv_desks.specs.Asked.{IsAskedOf, mixed_at, questions_at}
 use Rattle.mcv_desks.specs.Desks.{AsksHubs}
 use Rattle.mcv_desks.proofs.AskedAtHubs.{desks_answered, if_whole, key_is_answered, some_left, was_asked, whole_is_answered}
 use Rattle.mcv_desks.proofs.MixedRequests.{all_left}

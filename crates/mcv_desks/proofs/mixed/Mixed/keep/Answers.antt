@@ -19,7 +19,7 @@ invariant_of-self-2 g c =
     let asked : IsKeyAnswer opened_of q key (answer_value (Ok c.args.parts)) = subst (λ (v : MixedView). IsKeyAnswer opened_of v.request key (answer_value (Ok c.args.parts))) (sym c.self.view_is) c.requires in
     let is = subst (λ (ps : List Part). IsAnswer (opened_of asked.hub) (only_key (request_value q.asked) key) (Ok (map part_value ps))) c.in-Some.ensures.items asked.is in
     let its = reply_to_key c.key_words_have_one_reading.ensures.one c.key_words_have_one_reading.ensures.no_rest opened_of q.hubs q.asked key asked.hub asked.of_key c.pop.new.self.items c.in-Some.part is in
-    one_more_reply opened_of q m.of_keys.items m.replies.items m.parts m.answered m.fault c.self.invariant c.saturating_add.result key c.in-Some.part c.fill.new.replies.items (omega (arith, c.saturating_add.ensures)) (c.fill.ensures.filled c.if-not-fill.false) its
+    one_more_reply opened_of q m.of_keys.items m.replies.items m.parts m.answered m.fault c.self.invariant c.saturating_add-self-inside.result key c.in-Some.part c.fill.new.replies.items (omega (arith, c.saturating_add-self-inside.ensures)) (c.fill.ensures.filled c.if-not-fill.false) its
 
 -- no place was filled
 pub invariant_of-self : goal.invariant_of-self
