@@ -70,7 +70,8 @@ impl Client {
     pub(crate) fn answer(&mut self, answer: Answer, now: Option<Instant>) {
         self.is_asking = false;
         self.since = now;
-        let _ = match answer.outcome {
+        let Answer { outcome, .. } = answer;
+        let _ = match outcome {
             Ok(parts) => self.machine.answer(parts.as_slice()),
             Err(fault) => self.machine.refuse(fault),
         };

@@ -21,7 +21,7 @@ impl<'a, F: HubNames, G: Names, S: Sources> Loop<'a, F, G, S> {
         }
     }
 
-    /// A server is to be written to. Without memory for that its connection is lost.
+    /// A server is to be written to, once, however often this is noted before it is.
     pub(crate) fn note_due(&mut self, hub: usize, server: ServerId) {
         let Some(place) = self.place(hub, server) else {
             return;
@@ -32,10 +32,8 @@ impl<'a, F: HubNames, G: Names, S: Sources> Loop<'a, F, G, S> {
         if line.is_due {
             return;
         }
+        // There is room for each connection.
         line.is_due = self.due.push((hub, server)).is_ok();
-        if !line.is_due {
-            self.lose(hub, server, Loss::Broken);
-        }
     }
 
     /// A server sends no more. What it said is read to its end.

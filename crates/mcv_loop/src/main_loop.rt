@@ -54,7 +54,7 @@ pub struct Loop<'a, F: HubNames, G: Names, S: Sources> {
     pub(crate) servers: u32,
     /// The connections to all servers, hub after hub.
     pub(crate) lines: Vec<Line>,
-    /// Connections that are to be written to.
+    /// Connections that are to be written to. There is room for each.
     pub(crate) due: Vec<(usize, ServerId)>,
     pub(crate) posts: Vec<Post>,
     pub(crate) ready: Vec<Ready>,
@@ -102,6 +102,7 @@ impl<'a, F: HubNames, G: Names, S: Sources> Loop<'a, F, G, S> {
                 lines.push(Line::new(alloc, ServerId(server)))?;
             }
         }
+        let due = Vec::with_capacity(alloc, lines.len())?;
         let mut room = Vec::new(alloc);
         room.resize(PIECE, 0)?;
         Ok(Loop {
@@ -115,7 +116,7 @@ impl<'a, F: HubNames, G: Names, S: Sources> Loop<'a, F, G, S> {
             touched: Vec::new(alloc),
             servers,
             lines,
-            due: Vec::new(alloc),
+            due,
             posts,
             ready: Vec::new(alloc),
             room,

@@ -11,8 +11,8 @@ pub loop-one-init : goal.loop-one-init
 loop-one-init c = record { again = refl; lost = refl; arrivals_room = c.requires.arrivals; again_room = c.requires.again }
 
 -- there is room for one more
-pub tell_one-requires : goal.tell_one-requires
-tell_one-requires c =
+pub tell_one-is_oldest-requires : goal.tell_one-is_oldest-requires
+tell_one-is_oldest-requires c =
     let many = c.in-Some.ensures.len in
     let arrivals = c.loop-one.invariant.arrivals_room in
     let again = c.loop-one.invariant.again_room in
@@ -28,7 +28,7 @@ loop-one-preserved c =
     let oldest = c.loop-one.is_oldest in
     let items : c.loop-one.sent.items ≡ one ∷ rest = c.in-Some.ensures.items in
     let many = c.in-Some.ensures.len in
-    let told = c.tell_one.ensures in
+    let told = c.tell_one-is_oldest.ensures in
     let few = told.few in
     let room = told.room in
     let arrivals_room = before.arrivals_room in
@@ -37,7 +37,7 @@ loop-one-preserved c =
       again =
           ap (λ (xs : List Flight). xs ++ again_of loss rest) told.again ∙ again_step loss one rest c.loop-one.again.items ∙ ap (λ (xs : List Sent). c.loop-one.again.items ++ again_of loss xs) (sym items) ∙ before.again;
       lost =
-          ap (λ (b : Bool). c.tell_one.new.arrivals.items ++ lost_of server loss b rest) told.oldest ∙ ap (λ (xs : List Arrival). xs ++ lost_of server loss (oldest && goes_again loss one) rest) told.lost ∙ lost_step server loss oldest one rest c.loop-one.arrivals.items
+          ap (λ (b : Bool). c.tell_one-is_oldest.new.arrivals.items ++ lost_of server loss b rest) told.oldest ∙ ap (λ (xs : List Arrival). xs ++ lost_of server loss (oldest && goes_again loss one) rest) told.lost ∙ lost_step server loss oldest one rest c.loop-one.arrivals.items
           ∙ ap (λ (xs : List Sent). c.loop-one.arrivals.items ++ lost_of server loss oldest xs) (sym items) ∙ before.lost;
       arrivals_room = omega (arith, many, few.0, room.0, arrivals_room);
       again_room = omega (arith, many, few.1, room.1, again_room);
@@ -49,9 +49,9 @@ loop-one-smaller c = let many = c.in-Some.ensures.len in omega (arith, many)
 -- none is left
 pub returns : goal.returns
 returns c =
-    let none : c.loop-one.sent.items ≡ [] = no_legs c.loop-one.sent.items (c.in-None.ensures.items ∙ c.in-None.ensures.rest) in
+    let none : c.loop-one.sent.items ≡ [] = no_legs c.loop-one.sent.items (c.in_default.ensures.items ∙ c.in_default.ensures.rest) in
     record {
-      none = sym c.in-None.ensures.items ∙ none;
+      none = sym c.in_default.ensures.items ∙ none;
       again = sym (append-nil c.loop-one.again.items) ∙ ap (λ (xs : List Sent). c.loop-one.again.items ++ again_of c.args.loss xs) (sym none) ∙ c.loop-one.invariant.again;
       lost = sym (append-nil c.loop-one.arrivals.items) ∙ ap (λ (xs : List Sent). c.loop-one.arrivals.items ++ lost_of c.args.server c.args.loss c.loop-one.is_oldest xs) (sym none) ∙ c.loop-one.invariant.lost;
     }

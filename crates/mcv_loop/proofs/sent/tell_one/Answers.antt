@@ -26,7 +26,7 @@ returns-clause-again c =
 pub returns-clause-lost : goal.returns-clause-lost
 returns-clause-lost c =
     let e : goes_again c.args.loss c.args.one ≡ false = sym c.goes_again-may_go.ensures ∙ c.if-may_go.false in
-    c.push_reserved.ensures.items ∙ ap (λ (a : Arrival). c.args.arrivals.now.items ++ a ∷ []) c.lost_leg.ensures ∙ ap (λ (xs : List Arrival). c.args.arrivals.now.items ++ xs) (sym (is_lost c.args.server c.args.loss c.args.is_oldest c.args.one e))
+    c.push_reserved-2.ensures.items ∙ ap (λ (a : Arrival). c.args.arrivals.now.items ++ a ∷ []) c.lost_leg.ensures ∙ ap (λ (xs : List Arrival). c.args.arrivals.now.items ++ xs) (sym (is_lost c.args.server c.args.loss c.args.is_oldest c.args.one e))
 
 pub returns-clause-oldest : goal.returns-clause-oldest
 returns-clause-oldest c = oldest_no_more c.args.is_oldest (goes_again c.args.loss c.args.one) (sym c.goes_again-may_go.ensures ∙ c.if-may_go.false)
