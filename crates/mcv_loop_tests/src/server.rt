@@ -22,6 +22,17 @@ pub(crate) struct Server {
     pub(crate) says: Vec<u8>,
 }
 
+/// Answers a get of this value.
+fn say_value(alloc: Global, value: &Value, says: &mut Vec<u8>) -> Option<()> {
+    let size = value.body.len();
+    let line = format!(in alloc; " 0 {size}\r\n").ok()?;
+    says.extend_from_slice(b"VALUE ").ok()?;
+    says.extend_from_slice(value.key.as_slice()).ok()?;
+    says.extend_from_slice(line.as_bytes()).ok()?;
+    says.extend_from_slice(value.body.as_slice()).ok()?;
+    says.extend_from_slice(b"\r\nEND\r\n").ok()
+}
+
 impl Server {
     pub(crate) fn new(alloc: Global) -> Server {
         Server {
@@ -67,21 +78,9 @@ impl Server {
     }
 
     fn get(&mut self, key: &[u8]) -> Option<()> {
-        let alloc = self.alloc;
         for value in self.values.iter() {
             if value.key.as_slice() == key {
-                let size = value.body.len();
-                let line = format!(in alloc; " 0 {size}\r\n").ok()?;
-                for part in [
-                    b"VALUE ".as_slice(),
-                    key,
-                    line.as_bytes(),
-                    value.body.as_slice(),
-                    b"\r\nEND\r\n".as_slice(),
-                ] {
-                    self.says.extend_from_slice(part).ok()?;
-                }
-                return Some(());
+                return say_value(self.alloc, value, &mut self.says);
             }
         }
         self.say(b"END\r\n")

@@ -7,5 +7,5 @@
 mod poll_sources;
 mod spooler;
 
-pub use crate::poll_sources::PollSources;
+pub use crate::poll_sources::{PollSources, Sockets};
 pub use crate::spooler::{Mailbox, serve_spool};

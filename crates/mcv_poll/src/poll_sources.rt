@@ -8,6 +8,7 @@ use mcv_base::{Moment, ServerId};
 use mcv_hub::Pass;
 use mcv_loop::{Ready, Source, SourceFault, Sources, Took};
 use mcv_turn::HeldLeg;
+use mio::event::Event;
 use mio::net::{TcpListener, TcpStream};
 use mio::{Events, Interest, Poll, Token};
 use std::alloc::{AllocError, Global};
@@ -36,6 +37,15 @@ const MOST_ACCEPTED: usize = 256;
 
 /// The most that becomes ready in one wait, but for the spool's answers.
 const MOST_READY: usize = 2 * EVENTS + MOST_ACCEPTED;
+
+/// Where a loop's clients come, and where its servers are.
+#[derive(Drop)]
+pub struct Sockets {
+    pub poll: Poll,
+    pub listener: TcpListener,
+    /// The addresses of each server.
+    pub addresses: Vec<Vec<SocketAddr>>,
+}
 
 /// Sockets that don't wait, and the spool's mailbox.
 #[derive(Drop)]
@@ -72,18 +82,68 @@ fn took(outcome: io::Result<usize>) -> Took
     }
 }
 
+/// How many connections to servers there are, of which each hub has one to each server.
+#[derive(Clone, Copy)]
+struct Lines {
+    count: usize,
+    servers: usize,
+}
+
+/// The connection of this token.
+fn source_of(lines: Lines, token: usize) -> Option<Source> {
+    let number = token.checked_sub(FIRST)?;
+    if number >= lines.count {
+        return Some(Source::Client((number - lines.count) as u64));
+    }
+    let hub = number.checked_div(lines.servers)?;
+    let server = u32::try_from(number.checked_rem(lines.servers)?).ok()?;
+    Some(Source::Server {
+        hub,
+        server: ServerId(server),
+    })
+}
+
+/// Puts what an event says of a connection behind `ready`.
+fn note_event(source: Source, event: &Event, ready: &mut Vec<Ready>) -> Result<(), AllocError> {
+    if event.is_error() || event.is_read_closed() {
+        ready.push(Ready::End(source))?;
+    } else if event.is_readable() {
+        ready.push(Ready::Read(source))?;
+    }
+    if event.is_writable() {
+        ready.push(Ready::Write(source))?;
+    }
+    Ok(())
+}
+
+/// Puts what events say of connections behind `ready`. Whether one says that clients wait.
+fn note_events(lines: Lines, events: &Events, ready: &mut Vec<Ready>) -> Result<bool, AllocError> {
+    let mut clients_wait = false;
+    for event in events.iter() {
+        let token = event.token().0;
+        if token == LISTENER {
+            clients_wait = true;
+        } else if let Some(source) = source_of(lines, token) {
+            note_event(source, event, ready)?;
+        }
+    }
+    Ok(clients_wait)
+}
+
 impl<R: Net + Clock + Wait + Copy + Drop> PollSources<R> {
-    /// A listener's clients, and servers with these addresses, for so many hubs.
+    /// A listener's clients, and a loop's servers, for so many hubs. An error is the system's, or that memory ran out.
     pub fn new(
         rt: R,
         alloc: Global,
-        poll: Poll,
-        listener: TcpListener,
+        sockets: Sockets,
         hubs: usize,
-        addresses: Vec<Vec<SocketAddr>>,
         mailbox: Arc<Mailbox>,
     ) -> io::Result<PollSources<R>> {
-        let mut listener = listener;
+        let Sockets {
+            poll,
+            mut listener,
+            addresses,
+        } = sockets;
         poll.registry()
             .register(&mut listener, Token(LISTENER), Interest::READABLE)?;
         let mut lines = Vec::new(alloc);
@@ -111,20 +171,6 @@ impl<R: Net + Clock + Wait + Copy + Drop> PollSources<R> {
     fn place(&self, hub: usize, server: ServerId) -> Option<usize> {
         hub.checked_mul(self.addresses.len())?
             .checked_add(server.0 as usize)
-    }
-
-    /// The connection of this token.
-    fn source_of(&self, token: usize) -> Option<Source> {
-        let number = token.checked_sub(FIRST)?;
-        if number >= self.lines.len() {
-            return Some(Source::Client((number - self.lines.len()) as u64));
-        }
-        let hub = number.checked_div(self.addresses.len())?;
-        let server = u32::try_from(number.checked_rem(self.addresses.len())?).ok()?;
-        Some(Source::Server {
-            hub,
-            server: ServerId(server),
-        })
     }
 
     /// Accepts the clients that wait, up to a limit. One that can't be registered is dropped; while none can be accepted, for want of
@@ -166,23 +212,12 @@ impl<R: Net + Clock + Wait + Copy + Drop> PollSources<R> {
 
     /// What the events say is ready.
     fn look(&mut self, ready: &mut Vec<Ready>) -> Result<(), AllocError> {
-        for event in self.events.iter() {
-            let token = event.token().0;
-            if token == LISTENER {
-                self.accepts = true;
-                continue;
-            }
-            let Some(source) = self.source_of(token) else {
-                continue;
-            };
-            if event.is_error() || event.is_read_closed() {
-                ready.push(Ready::End(source))?;
-            } else if event.is_readable() {
-                ready.push(Ready::Read(source))?;
-            }
-            if event.is_writable() {
-                ready.push(Ready::Write(source))?;
-            }
+        let lines = Lines {
+            count: self.lines.len(),
+            servers: self.addresses.len(),
+        };
+        if note_events(lines, &self.events, ready)? {
+            self.accepts = true;
         }
         if self.accepts {
             self.accept(ready);
