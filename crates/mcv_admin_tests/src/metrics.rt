@@ -26,6 +26,10 @@ mcv_legs_sent_total{server=\"[::1]:11211\"} 0
 # TYPE mcv_legs_lost_total counter
 mcv_legs_lost_total{server=\"a:11211\"} 1
 mcv_legs_lost_total{server=\"[::1]:11211\"} 0
+# HELP mcv_legs_waiting Legs that waited to be sent when they were last counted, by server.
+# TYPE mcv_legs_waiting gauge
+mcv_legs_waiting{server=\"a:11211\"} 19
+mcv_legs_waiting{server=\"[::1]:11211\"} 0
 # HELP mcv_server_marked Hubs that have marked the server as down, by server.
 # TYPE mcv_server_marked gauge
 mcv_server_marked{server=\"a:11211\"} 2
@@ -81,6 +85,7 @@ fn unasked(alloc: Global, server: &str) -> Result<ServerCounts, Fail> {
         server: String::from_str(alloc, server)?,
         sent: 0,
         lost: 0,
+        waiting: 0,
         marked: 0,
         replayed: 0,
     })
@@ -132,6 +137,7 @@ fn counts(alloc: Global) -> Result<Snapshot, Fail> {
     servers.push(ServerCounts {
         sent: 70,
         lost: 1,
+        waiting: 19,
         marked: 2,
         replayed: 9,
         ..unasked(alloc, "a:11211")?

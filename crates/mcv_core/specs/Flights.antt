@@ -1,6 +1,6 @@
--- How many legs are in flight to each server (own).
+-- How many legs are in flight to each server, and how many wait for it (own).
 use Rattle.std.specs.Prelude.{◌≡◌, ◌≤◌, ◌+◌, ◌-◌, ◌&&◌, ℕ, Bool, true, false, List, Option, Some, None, cond, length, nat_eq}
-use Rattle.mcv_queues.specs.Flights.{are_apart, lists}
+use Rattle.mcv_queues.specs.Flights.{AreCounted}
 use Rattle.mcv_events.specs.Rows as rows
 use Rattle.mcv_events.specs.Rows.{LegRow, Rows}
 
@@ -31,8 +31,22 @@ flies_to server None = false
 flies_to server (Some s) = nat_eq s.launch.server.0 server && flies_in s.state
 
 -- so many of the rows are in flight to the server
-pub record AreInFlight (w : Rows) (server count : ℕ) : Type 0 where
-  pub numbers : List ℕ
-  pub these : (n : ℕ) → lists numbers n ≡ flies_to server (w.legs n)
-  pub apart : are_apart numbers ≡ true
-  pub counted : length numbers ≡ count
+abbrev pub AreInFlight : (w : Rows) (server count : ℕ) → Type 0
+AreInFlight w server count = AreCounted (flies_to server) w.legs count
+
+-- ---- which wait
+
+abbrev pub waits_in : rows.State → Bool
+waits_in rows.Waiting = true
+waits_in rows.Sent = false
+waits_in rows.Held = false
+waits_in rows.InSpool = false
+waits_in rows.InReplay = false
+
+abbrev pub waits_to : ℕ → Option LegRow → Bool
+waits_to server None = false
+waits_to server (Some s) = nat_eq s.launch.server.0 server && waits_in s.state
+
+-- so many of the rows wait to be sent to the server
+abbrev pub AreWaiting : (w : Rows) (server count : ℕ) → Type 0
+AreWaiting w server count = AreCounted (waits_to server) w.legs count

@@ -1,9 +1,10 @@
 //! What is read of the legs.
 
-ghost use Rattle.std.specs.Prelude.{◌≡◌, ◌≤◌, option_and_then, option_copied, option_map};
+ghost use Rattle.std.specs.Prelude.{◌≡◌, ◌≤◌, ℕ, IfOk, IfSome, length, option_and_then, option_copied, option_map, slice_get, vec_len};
+ghost use Rattle.mcv_events.specs.QueuedLegs.{queued_legs};
 ghost use Rattle.mcv_queues.specs.Numbers.{leg_number};
 ghost use Rattle.mcv_core.specs.Errands.{launch_of, rest_of};
-ghost use Rattle.mcv_core.specs.Flights.{AreInFlight};
+ghost use Rattle.mcv_core.specs.Flights.{AreInFlight, AreWaiting};
 ghost use Rattle.mcv_core.specs.Readers.{IsFirstHeld, call_asked, leg_state, request_in, request_of, row_asked, seen, seen_row};
 ghost use Rattle.mcv_core.specs.Rows.{call_row, state_of};
 ghost use Rattle.mcv_core.specs.View.{core_view, records_of};
@@ -15,6 +16,7 @@ use crate::step::LegState;
 use mcv_base::{CallId, LegId, Mark, Op, Request, Rest, ServerId};
 use mcv_check::Accepted;
 use mcv_queues::State;
+use std::alloc::{AllocError, Global};
 
 /// What its server is sent of a leg.
 #[derive(Clone, Copy)]
@@ -128,6 +130,22 @@ impl Dispatcher {
         ensures within { result ≤ (core_view self.now).limit }
     {
         self.queues.in_flight(server)
+    }
+
+    /// How many legs wait to be sent to each server, in the order of the servers' numbers: one pass over all legs. An error is
+    /// that memory ran out.
+    pub fn waiting(&self, alloc: Global) -> Result<Vec<usize>, AllocError>
+        ensures servers { IfOk result (λ counts. length (core_view self.now).routes.servers ≤ vec_len counts) }
+        ensures counted { IfOk result (λ counts. (s : ℕ) → IfSome (slice_get counts.items s) (λ count. ∥ AreWaiting (core_view self.now).rows s count ∥₁)) }
+    {
+        self.queues.waiting(alloc)
+    }
+
+    /// How many legs are queued: they wait, are sent for the first time, or are held.
+    pub fn queued(&self) -> usize
+        ensures { result ≡ queued_legs (core_view self.now).rows }
+    {
+        self.counts.queued
     }
 
     /// How many legs of a server may be in flight at a time.

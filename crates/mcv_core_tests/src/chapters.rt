@@ -11,6 +11,7 @@ use mcv_check::Accepted;
 use mcv_core::CoreFault;
 use mcv_hub::{Capacity, Gate, Guard, Hub, HubLedger, LegReply, Passes, Receipt, Report, Seat};
 use std::marker::Brand;
+use std::num::NonZeroUsize;
 use std::process::Abort;
 use std::rt::Clock;
 use std::sync::ledger::{Blank, Ledger};
@@ -36,6 +37,7 @@ fn one_seat<B: HubLedger, T: Ledger>(
     requires opened { B.opened ≡ opened_view (arc_value accepted) [] }
 {
     let capacity = Capacity {
+        flights: NonZeroUsize::MIN,
         bells: 1,
         seats: SEATS,
     };

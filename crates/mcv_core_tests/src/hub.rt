@@ -14,6 +14,7 @@ use mcv_hub::{
     TakenReply,
 };
 use std::marker::Brand;
+use std::num::NonZeroUsize;
 use std::process::Abort;
 use std::sync::ledger::{Blank, Ledger};
 use std::sync::{Arc, Wait};
@@ -194,6 +195,7 @@ fn hub_of<B: HubLedger, T: Ledger>(
     requires opened { B.opened ≡ opened_view (arc_value accepted) [] }
 {
     let capacity = Capacity {
+        flights: NonZeroUsize::MIN,
         bells: 4,
         seats: SEATS,
     };

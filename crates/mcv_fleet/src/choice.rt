@@ -16,6 +16,9 @@ pub(crate) fn one_hub(choice: &HubChoice, request: &Request) -> Option<usize>
     ensures most { choice.now ≤ 8 }
     ensures none { result ≡ None → 1 < length (keys_of (request_value request.now)) }
 {
+    if choice.hubs() == 1 {
+        return Some(0);
+    }
     key_words_have_one_reading();
     let hub = choice.hub_of_key(request, 0);
     for key in 1..key_count(request) {

@@ -1,5 +1,6 @@
 //! The workers of one hub that run.
 
+use crate::census::employ_census;
 use crate::posts::{Shared, accepted_of, links_of, server_count};
 use crate::threads::{employ, employ_replayer, employ_spool, end_spool_at, end_work_at};
 use mcv_base::{ServerId, ServerText};
@@ -19,6 +20,8 @@ pub(crate) struct Crew {
     /// Those of the servers, and the replayer.
     workers: Vec<JoinHandle<()>>,
     spool: Option<JoinHandle<()>>,
+    /// Who counts the legs that wait, where somebody looks.
+    census: Option<JoinHandle<()>>,
 }
 
 /// What is made for the workers of a hub.
@@ -30,6 +33,17 @@ pub(crate) struct Tools<L: Drop, W: Drop> {
     replayer_links: Vec<L>,
     replayer_watch: W,
     spool_watch: W,
+    /// Of who counts the legs that wait; None where nobody looks.
+    census_watch: Option<W>,
+}
+
+/// The watch of who counts the legs that wait; None where nobody looks.
+fn census_watch_of<G: Gates>(gates: &mut G) -> Option<G::Watch> {
+    if gates.is_watched() {
+        Some(gates.watch())
+    } else {
+        None
+    }
 }
 
 /// What gates make for the workers of one hub.
@@ -43,6 +57,7 @@ pub(crate) fn tools_of<G: Gates>(
         replayer_links: links_of(alloc, accepted, gates)?,
         replayer_watch: gates.watch(),
         spool_watch: gates.watch(),
+        census_watch: census_watch_of(gates),
     })
 }
 
@@ -127,12 +142,42 @@ where
     employ_spool(rt, alloc, shared, hub, texts, pass, watch)
 }
 
+/// Starts who counts the legs that wait, where there is a watch for it. An error is that there was no memory or no thread for
+/// it.
+fn staff_census<
+    F: HubNames + Send + Sync + 'static,
+    G: Names + Send + Sync + 'static,
+    D: Disk + Send + 'static,
+    L: Link + Send + 'static,
+    W: Watch + Send + 'static,
+    R: Threads + Wait + Clock + Copy + Send + 'static,
+>(
+    rt: R,
+    alloc: Global,
+    shared: &Arc<Shared<F, G, D, L>>,
+    hub: usize,
+    pass: Pass,
+    watch: Option<W>,
+) -> Result<Option<JoinHandle<()>>, AllocError>
+where
+    L::Begun: Send + 'static,
+{
+    let Some(watch) = watch else {
+        return Ok(None);
+    };
+    match employ_census(rt, alloc, shared, hub, pass, watch) {
+        Some(census) => Ok(Some(census)),
+        None => Err(AllocError),
+    }
+}
+
 impl Crew {
     /// None yet.
     pub(crate) fn new(alloc: Global) -> Crew {
         Crew {
             workers: Vec::new(alloc),
             spool: None,
+            census: None,
         }
     }
 
@@ -161,7 +206,9 @@ impl Crew {
             replayer_links,
             replayer_watch,
             spool_watch,
+            census_watch,
         } = tools;
+        self.census = staff_census(rt, alloc, shared, hub, passes.pass(), census_watch)?;
         self.spool = staff_spool(rt, alloc, shared, hub, passes.pass(), spool_watch);
         if self.spool.is_none() {
             return Err(AllocError);
@@ -182,7 +229,7 @@ impl Crew {
     }
 
     /// Asks the servers' workers and the replayer of the hub of this number to end, waits until they have, and then does so
-    /// with the spool's worker.
+    /// with the spool's worker and with who counts.
     pub(crate) fn dismiss<F: HubNames, G: Names, D: Disk, L: Link, R: Threads + Wait>(
         self,
         rt: &R,
@@ -190,7 +237,11 @@ impl Crew {
         hub: usize,
         pass: &mut Pass,
     ) {
-        let Crew { workers, spool } = self;
+        let Crew {
+            workers,
+            spool,
+            census,
+        } = self;
         let servers = server_count(accepted_of(shared));
         end_work_at(rt, shared, hub, servers, pass);
         for worker in workers {
@@ -199,6 +250,9 @@ impl Crew {
         end_spool_at(rt, shared, hub, pass);
         if let Some(spool) = spool {
             spool.join(rt);
+        }
+        if let Some(census) = census {
+            census.join(rt);
         }
     }
 }

@@ -105,9 +105,14 @@ impl<'a, F: HubNames, G: Names, L: Link, W: Watch, R: Wait + Clock> HubsDesk<'a,
     fn note_at(&mut self, hub: usize)
         requires { hub < 8 }
     {
-        self.note_load_at(hub);
-        if let Some(shortage) = self.desks.outlook_at(hub).shortage {
-            self.watch.note_full(shortage);
+        let Outlook {
+            chapter,
+            load,
+            shortage,
+        } = self.desks.outlook_at(hub);
+        self.watch.note_load(hub, chapter, load);
+        if let Some(shortage) = shortage {
+            self.watch.note_full(hub, shortage);
         }
     }
 
@@ -123,10 +128,27 @@ impl<'a, F: HubNames, G: Names, L: Link, W: Watch, R: Wait + Clock> HubsDesk<'a,
         }
     }
 
-    /// Notes what had no place for a call that was refused so, if anything.
-    fn note_refused(&mut self, fault: CoreFault) {
+    /// The hub that refused a call for a key of a request. Of the hubs of its keys, in their order, it is the first that has a
+    /// shortage, since each before it has begun its calls; where none has, that of the first key.
+    fn refusing_hub(&self, request: &Request) -> usize
+        ensures { result < 8 }
+    {
+        for key in 0..key_count(request) {
+            let hub = self.choice.hub_of_key(request, key);
+            if self.desks.outlook_at(hub).shortage.is_some() {
+                return hub;
+            }
+        }
+        self.choice.hub_of_key(request, 0)
+    }
+
+    /// Notes what had no place for a call of a request over several hubs that was refused so, if anything, and how full the
+    /// chapter of its hub was.
+    fn note_refused(&mut self, request: &Request, fault: CoreFault) {
         if let Some(shortage) = shortage_of(fault) {
-            self.watch.note_full(shortage);
+            let hub = self.refusing_hub(request);
+            self.note_load_at(hub);
+            self.watch.note_full(hub, shortage);
         }
     }
 
@@ -182,7 +204,7 @@ impl<'a, F: HubNames, G: Names, L: Link, W: Watch, R: Wait + Clock> HubsDesk<'a,
                 Ok(into_parts(taken, parts))
             }
             Err(fault) => {
-                self.note_refused(fault);
+                self.note_refused(request, fault);
                 Err(fault_for(fault))
             }
         }

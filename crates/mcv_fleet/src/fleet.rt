@@ -2,7 +2,7 @@
 
 ghost use Rattle.std.specs.Prelude.{◌≡◌, ◌+◌, ℕ, IfOk, map};
 ghost use Rattle.std.specs.Arc.{arc_value};
-ghost use Rattle.mcv_core.specs.Opening.{opened_view};
+ghost use Rattle.mcv_core.specs.Opening.{opened_within};
 ghost use Rattle.mcv_hubs.specs.Blanks.{AreOf};
 ghost use Rattle.mcv_hubs.specs.Choice.{records_at};
 ghost use Rattle.mcv_spool.specs.File.{slots, waiting};
@@ -11,6 +11,7 @@ ghost use Rattle.mcv_fleet.specs.Reports.{IsReport};
 
 use crate::crew::{Crew, tools_of};
 use crate::host::accept;
+use crate::leftovers::queued_legs;
 use crate::posts::{Shared, accepted_of, hubs_of, posts_of};
 use crate::running::{Done, Running};
 use crossbeam_channel::{Receiver, Sender};
@@ -21,6 +22,7 @@ use mcv_proxy::{Gates, Link, ProxyFault};
 use mcv_spool::{Disk, Slot, Spool, SpoolRecord};
 use std::alloc::{AllocError, Global};
 use std::marker::Brand;
+use std::num::NonZeroUsize;
 use std::rt::Clock;
 use std::sync::{Arc, Mutex, Wait};
 use std::thread::Threads;
@@ -30,6 +32,9 @@ const SEATS: u64 = 1 << 62;
 
 /// How many bells of each hub sessions wait at.
 const BELLS: usize = 256;
+
+/// How many legs of a server of each hub may be in flight at a time: one, since a link sends a leg and waits for its reply.
+const FLIGHTS: NonZeroUsize = NonZeroUsize::MIN;
 
 /// The spool, and what is pending.
 #[derive(Drop)]
@@ -110,7 +115,7 @@ fn serve_clients<
     running.gather(&rt)
 }
 
-/// Serves all clients, and has the workers end: what the sessions handed back.
+/// Serves all clients, has the workers end, and says how many legs are left: what the sessions handed back.
 fn run<
     F: HubNames + Send + Sync + 'static,
     N: Names + Send + Sync + 'static,
@@ -135,6 +140,7 @@ fn run<
         crew.dismiss(&rt, shared, hub, &mut pass);
         hub = hub.saturating_add(1);
     }
+    gates.ended(queued_legs(&rt, shared, &mut pass));
     done
 }
 
@@ -163,9 +169,10 @@ fn open_hubs<F: HubNames, N: Names>(
 ) -> Result<Opened<F, N>, ProxyFault>
     requires begun { AreOf F.name_of F.parts_of (SEATS + 1) begun }
     requires taken { AreOf N.name_of N.parts_of (SEATS + 1) taken }
-    requires opened { (hub : ℕ) → F.opened_of hub ≡ opened_view (arc_value accepted.now) (records_at choice hub records.now) }
+    requires opened { (hub : ℕ) → F.opened_of hub ≡ opened_within 1 (arc_value accepted.now) (records_at choice hub records.now) }
 {
     let capacity = Capacity {
+        flights: FLIGHTS,
         bells: BELLS,
         seats: SEATS,
     };
@@ -266,7 +273,7 @@ fn serve_hubs<
 ) -> Result<Report, ProxyFault>
     requires begun { AreOf F.name_of F.parts_of (SEATS + 1) begun }
     requires taken { AreOf N.name_of N.parts_of (SEATS + 1) taken }
-    requires opened { (hub : ℕ) → F.opened_of hub ≡ opened_view (arc_value accepted) (records_at choice hub store.records.items) }
+    requires opened { (hub : ℕ) → F.opened_of hub ≡ opened_within 1 (arc_value accepted) (records_at choice hub store.records.items) }
     ensures { IfOk result IsReport }
 {
     let Store { spool, records } = store;

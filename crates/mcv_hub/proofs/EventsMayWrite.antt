@@ -28,13 +28,13 @@ use Rattle.mcv_events.specs.Runs.{OpenedRecord, spooled_row}
 use Rattle.mcv_events.specs.Sums.{sum_below}
 use Rattle.mcv_core.specs.Beginning.{begun}
 use Rattle.mcv_core.specs.PlannedLegs.{legs_of_call}
-use Rattle.mcv_core.proofs.Chapters.{answer_chapter, loss_chapter, refusing_chapter, spooling_chapter}
+use Rattle.mcv_core.proofs.Chapters.{answer_chapter, loss_chapter, lost_too_chapter, refusing_chapter, spooling_chapter}
 use Rattle.mcv_core.proofs.Dispatchers.{view_has_era, view_is_core}
 use Rattle.mcv_core.proofs.EventsLead.{Leads, begun_leads, clock_leads, effect_same, leg_leads, move_leads, next_leads, replay_leads, take_leads}
-use Rattle.mcv_core.specs.CoreView.{CoreView, Effect, HasEffect, IsQuiet, answer_at, answer_in, at_row, change_move, does, finished, held, in_row_state, is_in_spool, is_record, is_spooled, is_waiting, loss_at, loss_in, refused, refuses, refusing_at, refusing_in, replayed_in, sent_in, spooling_at, spooling_in, step_to, stores, taken_view, taken_row, waits_in, with_mark}
-use Rattle.mcv_core.specs.Events.{Happens, IsAnsweredLeg, IsBegun, IsClocked, IsLostLeg, IsMarked, IsNext, IsRefusedLeg, IsReplay, IsSpooledLeg, IsTaken, IsUnmarked, SetsClock}
+use Rattle.mcv_core.specs.CoreView.{CoreView, Effect, HasEffect, IsQuiet, answer_at, answer_in, at_row, change_move, does, finished, held, in_row_state, is_in_spool, is_record, is_spooled, is_waiting, landing_in, loss_at, loss_in, lost_too_at, refused, refuses, refusing_at, refusing_in, replayed_in, sent_in, spooling_at, spooling_in, step_to, stores, taken_view, taken_row, waits_in, with_mark}
+use Rattle.mcv_core.specs.Events.{Happens, IsAnsweredLeg, IsBegun, IsClocked, IsLostLeg, IsLostTooLeg, IsMarked, IsNext, IsRefusedLeg, IsReplay, IsSpooledLeg, IsTaken, IsUnmarked, SetsClock}
 use Rattle.mcv_core.specs.Flights.{one_more}
-use Rattle.mcv_core.specs.Opening.{known_records, opened_view}
+use Rattle.mcv_core.specs.Opening.{known_records, opened_within}
 use Rattle.mcv_core.specs.Soundness.{spooled_in, spooled_one}
 use Rattle.mcv_core.specs.Chapters.{era_move, in_era, spooled_legs, turned}
 use Rattle.mcv_core.specs.View.{core_view}
@@ -108,14 +108,18 @@ replay_writes v w n server flights i first e =
 
 -- ---- events on legs
 
--- where the effect leads, no more is left than what it writes allows
+-- as many legs may be in flight as before, and no more is left than what the change writes allows
+abbrev Spends : CoreView → CoreView → Change → Type 0
+Spends v w change = (w.limit ≡ v.limit) × (may_write w + written_by change ≤ may_write v)
+
+-- where the effect leads
 abbrev WritesAfter : CoreView → Effect → Type 0
 WritesAfter v (refuses fault) = ⊤
-WritesAfter v (does step w) = may_write w + written_by step.change ≤ may_write v
+WritesAfter v (does step w) = Spends v w step.change
 
-by_effect : (v w : CoreView) (e : Effect) (result : Result Step CoreFault) → WritesAfter v e → HasEffect e v w result → IfOk result (λ step. may_write w + written_by step.change ≤ may_write v)
-by_effect v w (refuses fault) result good h = subst (λ z. IfOk z (λ step. may_write w + written_by step.change ≤ may_write v)) (sym h.0) tt
-by_effect v w (does done u) result good h = subst (λ z. IfOk z (λ step. may_write w + written_by step.change ≤ may_write v)) (sym h.0) (subst (λ z. may_write z + written_by done.change ≤ may_write v) (sym h.1) good)
+by_effect : (v w : CoreView) (e : Effect) (result : Result Step CoreFault) → WritesAfter v e → HasEffect e v w result → IfOk result (λ step. Spends v w step.change)
+by_effect v w (refuses fault) result good h = subst (λ z. IfOk z (λ step. Spends v w step.change)) (sym h.0) tt
+by_effect v w (does done u) result good h = subst (λ z. IfOk z (λ step. Spends v w step.change)) (sym h.0) (subst (λ z. Spends v z done.change) (sym h.1) good)
 
 by_test : (v : CoreView) (b : Bool) (e f : Effect) → WritesAfter v e → WritesAfter v f → WritesAfter v (cond b e f)
 by_test v true e f one other = one
@@ -128,53 +132,65 @@ module _ (v : CoreView) (i : IsCore v.routes v.rows) (n : ℕ) (s : LegRow) (at 
   weighs : (t : rows.State) → s.state ≡ t → leg_may_write (Some s) ≡ leg_may_write_in t
   weighs t is = ap leg_may_write_in is
 
-  held_writes : (g : ServerFailures → ServerFailures) → s.state ≡ rows.Sent → WritesAfter v (held (with_mark v s.launch.server.0 g) n s)
-  held_writes g is =
-      let t = leg_changes v.routes v.rows n s (Some (in_state s rows.Held)) low at in
-      by_rows v _ 0 refl refl (omega (arith, t, weighs rows.Sent is))
+  -- the marks, where the server's is changed
+  abbrev marked : (ServerFailures → ServerFailures) → ℕ → ServerFailures
+  marked g = (with_mark v s.launch.server.0 g).marks
 
-  finished_writes : (g : ServerFailures → ServerFailures) (y : ReplyValue) → s.state ≡ rows.Sent → WritesAfter v (finished (with_mark v s.launch.server.0 g) n y s)
-  finished_writes g y is =
+  -- whatever becomes of the marks
+  held_writes : (marks : ℕ → ServerFailures) → s.state ≡ rows.Sent → WritesAfter v (held (record v { marks = marks }) n s)
+  held_writes marks is =
+      let t = leg_changes v.routes v.rows n s (Some (in_state s rows.Held)) low at in
+      (refl, by_rows v _ 0 refl refl (omega (arith, t, weighs rows.Sent is)))
+
+  finished_writes : (marks : ℕ → ServerFailures) (y : ReplyValue) → s.state ≡ rows.Sent → WritesAfter v (finished (record v { marks = marks }) n y s)
+  finished_writes marks y is =
       let t = leg_changes v.routes v.rows n s None low at in
       let o = recording_for_writes v.routes (with_leg_row v.rows n None) s y s.call i.calls_below in
-      by_rows v _ 1 refl refl (omega (arith, t, o, weighs rows.Sent is))
+      (refl, by_rows v _ 1 refl refl (omega (arith, t, o, weighs rows.Sent is)))
 
-  sent_writes : (g : ServerFailures → ServerFailures) (y : ReplyValue) → s.state ≡ rows.Sent → WritesAfter v (sent_in (with_mark v s.launch.server.0 g) n y s)
-  sent_writes g y is = by_test v (is_counted_delete (leg_of s) && is_error_reply y) _ _ (held_writes g is) (finished_writes g y is)
+  sent_writes : (marks : ℕ → ServerFailures) (y : ReplyValue) → s.state ≡ rows.Sent → WritesAfter v (sent_in (record v { marks = marks }) n y s)
+  sent_writes marks y is = by_test v (is_counted_delete (leg_of s) && is_error_reply y) _ _ (held_writes marks is) (finished_writes marks y is)
 
-  replayed_writes : (g : ServerFailures → ServerFailures) (failed : Bool) → s.state ≡ rows.InReplay → WritesAfter v (replayed_in (with_mark v s.launch.server.0 g) n failed s)
-  replayed_writes g failed is =
+  replayed_writes : (marks : ℕ → ServerFailures) (failed : Bool) → s.state ≡ rows.InReplay → WritesAfter v (replayed_in (record v { marks = marks }) n failed s)
+  replayed_writes marks failed is =
       let t = leg_changes v.routes v.rows n s None low at in
       let u = leg_changes v.routes v.rows n s (Some (in_state s rows.InSpool)) low at in
-      by_test v failed _ _ (by_rows v _ 0 refl refl (omega (arith, u, weighs rows.InReplay is))) (by_rows v _ 1 refl refl (omega (arith, t, weighs rows.InReplay is)))
+      by_test v failed _ _ (refl, by_rows v _ 0 refl refl (omega (arith, u, weighs rows.InReplay is))) (refl, by_rows v _ 1 refl refl (omega (arith, t, weighs rows.InReplay is)))
 
   stores_writes : (seq : ℕ) → s.state ≡ rows.Held → WritesAfter v (stores v n seq s)
   stores_writes seq is =
       let t = leg_changes v.routes v.rows n s (Some (in_state s rows.InSpool)) low at in
       let o = recording_for_writes v.routes (with_leg_row v.rows n (Some (in_state s rows.InSpool))) s not_found s.call i.calls_below in
-      by_rows v _ 1 refl refl (omega (arith, t, o, weighs rows.Held is))
+      (refl, by_rows v _ 1 refl refl (omega (arith, t, o, weighs rows.Held is)))
 
   refused_writes : WritesAfter v (refused v s)
   refused_writes = by (awaits v.rows.calls s s.call) refl
     where
       by : (b : Bool) → awaits v.rows.calls s s.call ≡ b
           → WritesAfter v (cond b (does (step_to leg_states.Held changes.Refused) (record v { rows = refused_rows v.routes v.rows s })) (does (step_to leg_states.Held changes.Nothing) v))
-      by true e = by_rows v _ 1 refl refl (refusing_writes v.routes v.rows n s i at e)
-      by false e = by_rows v v 0 refl refl (omega arith)
+      by true e = (refl, by_rows v _ 1 refl refl (refusing_writes v.routes v.rows n s i at e))
+      by false e = (refl, by_rows v v 0 refl refl (omega arith))
 
   answer_writes_in : (x : ReplyValue) (t : rows.State) → s.state ≡ t → WritesAfter v (answer_in v n x s t)
   answer_writes_in x rows.Waiting is = tt
-  answer_writes_in x rows.Sent is = sent_writes answered_mark (counted_as s.launch.op x) is
+  answer_writes_in x rows.Sent is = sent_writes (marked answered_mark) (counted_as s.launch.op x) is
   answer_writes_in x rows.Held is = tt
   answer_writes_in x rows.InSpool is = tt
-  answer_writes_in x rows.InReplay is = replayed_writes answered_mark (is_error_reply (counted_as s.launch.op x)) is
+  answer_writes_in x rows.InReplay is = replayed_writes (marked answered_mark) (is_error_reply (counted_as s.launch.op x)) is
 
   loss_writes_in : (t : rows.State) → s.state ≡ t → WritesAfter v (loss_in v n s t)
   loss_writes_in rows.Waiting is = tt
-  loss_writes_in rows.Sent is = sent_writes lost_mark (fixed_value Lost) is
+  loss_writes_in rows.Sent is = sent_writes (marked lost_mark) (fixed_value Lost) is
   loss_writes_in rows.Held is = tt
   loss_writes_in rows.InSpool is = tt
-  loss_writes_in rows.InReplay is = replayed_writes lost_mark true is
+  loss_writes_in rows.InReplay is = replayed_writes (marked lost_mark) true is
+
+  lost_too_writes_in : (t : rows.State) → s.state ≡ t → WritesAfter v (landing_in v n (fixed_value Lost) s t)
+  lost_too_writes_in rows.Waiting is = tt
+  lost_too_writes_in rows.Sent is = sent_writes v.marks (fixed_value Lost) is
+  lost_too_writes_in rows.Held is = tt
+  lost_too_writes_in rows.InSpool is = tt
+  lost_too_writes_in rows.InReplay is = replayed_writes v.marks true is
 
   spooling_writes_in : (seq : ℕ) (its : Bool) (t : rows.State) → s.state ≡ t → WritesAfter v (spooling_in v n seq its s t)
   spooling_writes_in seq its rows.Waiting is = tt
@@ -198,16 +214,19 @@ by_row v f n h = by (v.rows.legs n) refl
     by (Some s) at = h s at
 
 module _ (v w : CoreView) (i : IsCore v.routes v.rows) (n : ℕ) (result : Result Step CoreFault) where
-  pub answer_writes : (x : ReplyValue) → HasEffect (answer_at v n x) v w result → IfOk result (λ step. may_write w + written_by step.change ≤ may_write v)
+  pub answer_writes : (x : ReplyValue) → HasEffect (answer_at v n x) v w result → IfOk result (λ step. Spends v w step.change)
   answer_writes x h = by_effect v w (answer_at v n x) result (by_row v (λ s. answer_in v n x s s.state) n (λ s at. answer_writes_in v i n s at x s.state refl)) h
 
-  pub loss_writes : HasEffect (loss_at v n) v w result → IfOk result (λ step. may_write w + written_by step.change ≤ may_write v)
+  pub loss_writes : HasEffect (loss_at v n) v w result → IfOk result (λ step. Spends v w step.change)
   loss_writes h = by_effect v w (loss_at v n) result (by_row v (λ s. loss_in v n s s.state) n (λ s at. loss_writes_in v i n s at s.state refl)) h
 
-  pub spooling_writes : (seq : ℕ) (text rest : List ℕ) → HasEffect (spooling_at v n seq text rest) v w result → IfOk result (λ step. may_write w + written_by step.change ≤ may_write v)
+  pub lost_too_writes : HasEffect (lost_too_at v n) v w result → IfOk result (λ step. Spends v w step.change)
+  lost_too_writes h = by_effect v w (lost_too_at v n) result (by_row v (λ s. landing_in v n (fixed_value Lost) s s.state) n (λ s at. lost_too_writes_in v i n s at s.state refl)) h
+
+  pub spooling_writes : (seq : ℕ) (text rest : List ℕ) → HasEffect (spooling_at v n seq text rest) v w result → IfOk result (λ step. Spends v w step.change)
   spooling_writes seq text rest h = by_effect v w (spooling_at v n seq text rest) result (by_row v (λ s. spooling_in v n seq (is_record v n text rest s) s s.state) n (λ s at. spooling_writes_in v i n s at seq (is_record v n text rest s) s.state refl)) h
 
-  pub refusal_writes : HasEffect (refusing_at v n) v w result → IfOk result (λ step. may_write w + written_by step.change ≤ may_write v)
+  pub refusal_writes : HasEffect (refusing_at v n) v w result → IfOk result (λ step. Spends v w step.change)
   refusal_writes h = by_effect v w (refusing_at v n) result (by_row v (λ s. refusing_in v n s s.state) n (λ s at. refusing_writes_in v i n s at s.state refl)) h
 
 -- ---- calls
@@ -293,9 +312,9 @@ opened_legs_write records (suc n) = let e = opened_legs_write records n in let z
     by None = omega arith
     by (Some x) = omega arith
 
-pub open_writes : (w : CoreView) (r : RoutesValue) (records : List (ℕ × SpoolRecord)) → w ≡ opened_view r records → may_write w ≤ w.entries + break_count r
+pub open_writes : (w : CoreView) (limit : ℕ) (r : RoutesValue) (records : List (ℕ × SpoolRecord)) → w ≡ opened_within limit r records → may_write w ≤ w.entries + break_count r
 unfolding may_write
-open_writes w r records e =
+open_writes w limit r records e =
     let known = known_records r.servers records in
     let o = opened_legs_write known (length known) in
     let b = all_breaks r 0 in
@@ -311,26 +330,28 @@ moved_written n x changes.Spooled = refl
 moved_written n x changes.Refused = refl
 moved_written n x changes.Performed = refl
 
--- it is its move, of the same chapter, and fewer entries may be written by those that it writes
+-- it is its move, of the same chapter, as many legs may be in flight, and fewer entries may be written by those that it writes
 pub record Goes (v w : CoreView) (m : Option Move) : Type 0 where
   pub leads : Leads v w m
   pub chapter : w.chapter ≡ v.chapter
+  pub same_limit : w.limit ≡ v.limit
   pub spent : may_write w + written m ≤ may_write v
 
 -- a call begins: its entries were not to be written before
 pub record GoesOn (v w : CoreView) (m : Option Move) : Type 0 where
   pub leads : Leads v w m
   pub chapter : w.chapter ≡ v.chapter
+  pub same_limit : w.limit ≡ v.limit
   pub within : v.entries ≤ w.entries
   pub limit : w.entries ≤ 1000000
   pub spent : may_write w + written m + v.entries ≤ may_write v + w.entries
 
-none_goes : (v w : CoreView) (m : Option Move) → m ≡ None → Leads v w m → w.chapter ≡ v.chapter → may_write w ≤ may_write v → Goes v w m
-none_goes v w m none leads chapter less = record { leads = leads; chapter = chapter; spent = subst (λ k. may_write w + written k ≤ may_write v) (sym none) (omega (arith, less)) }
+none_goes : (v w : CoreView) (m : Option Move) → m ≡ None → Leads v w m → w.chapter ≡ v.chapter → w.limit ≡ v.limit → may_write w ≤ may_write v → Goes v w m
+none_goes v w m none leads chapter limit less = record { leads = leads; chapter = chapter; same_limit = limit; spent = subst (λ k. may_write w + written k ≤ may_write v) (sym none) (omega (arith, less)) }
 
 -- it is refused
 same_goes : (v w : CoreView) (m : Option Move) → m ≡ None → w ≡ v → Leads v w m → Goes v w m
-same_goes v w m none same leads = none_goes v w m none leads (ap (λ z. z.chapter) same) (may_write_same v w same)
+same_goes v w m none same leads = none_goes v w m none leads (ap (λ z. z.chapter) same) (ap (λ z. z.limit) same) (may_write_same v w same)
 
 pub begun_goes : (d : Dispatcher) (w : CoreView) (chosen : SymbolValue → List ℕ → ℕ) (request : Request) (key : ℕ) (call : CallId) (m : Option Move) → IsBegun (core_view d) chosen request key (Ok call) m w → GoesOn (core_view d) w m
 begun_goes d w chosen request key call m h =
@@ -342,6 +363,7 @@ begun_goes d w chosen request key call m h =
     record {
       leads = begun_leads v chosen request key (Ok call) m w h;
       chapter = ap (λ z. z.chapter) h.begun.view;
+      same_limit = ap (λ z. z.limit) h.begun.view;
       within = omega (arith, e);
       limit = omega (arith, e, fits);
       spent = subst (λ k. may_write w + written k + v.entries ≤ may_write v + w.entries) (sym h.move) less;
@@ -352,22 +374,23 @@ unbegun_goes d w chosen request key fault m h = same_goes (core_view d) w m h.no
 
 pub next_goes : (d : Dispatcher) (w : CoreView) (server : ServerId) (r : Result LegId CoreFault) (m : Option Move) → IsNext (core_view d) server r m w → Goes (core_view d) w m
 next_goes d w server (Ok leg) m h =
-    none_goes (core_view d) w m h.none (next_leads (core_view d) server (Ok leg) m w h) (ap (λ z. z.chapter) h.view)
+    none_goes (core_view d) w m h.none (next_leads (core_view d) server (Ok leg) m w h) (ap (λ z. z.chapter) h.view) (ap (λ z. z.limit) h.view)
     (next_writes (core_view d) w leg.0 server.0 (one_more (core_view d).flights server.0) (view_is_core d) h.first h.view)
 next_goes d w server (Err fault) m h = same_goes (core_view d) w m h.none h.same (next_leads (core_view d) server (Err fault) m w h)
 
 pub replay_goes : (d : Dispatcher) (w : CoreView) (server : ServerId) (r : Result LegId CoreFault) (m : Option Move) → IsReplay (core_view d) server r m w → Goes (core_view d) w m
 replay_goes d w server (Ok leg) m h =
-    none_goes (core_view d) w m h.none (replay_leads (core_view d) server (Ok leg) m w h) (ap (λ z. z.chapter) h.view)
+    none_goes (core_view d) w m h.none (replay_leads (core_view d) server (Ok leg) m w h) (ap (λ z. z.chapter) h.view) (ap (λ z. z.limit) h.view)
     (replay_writes (core_view d) w leg.0 server.0 (one_more (core_view d).flights server.0) (view_is_core d) h.first h.view)
 replay_goes d w server (Err fault) m h = same_goes (core_view d) w m h.none h.same (replay_leads (core_view d) server (Err fault) m w h)
 
 module _ (e : Effect) (leg : LegId) (x : ReplyValue) (v : CoreView) where
-  leg_goes : (r : Result Step CoreFault) (m : Option Move) (w : CoreView) → Happens e leg x v r m w → w.chapter ≡ v.chapter → IfOk r (λ step. may_write w + written_by step.change ≤ may_write v) → Goes v w m
+  leg_goes : (r : Result Step CoreFault) (m : Option Move) (w : CoreView) → Happens e leg x v r m w → w.chapter ≡ v.chapter → IfOk r (λ step. Spends v w step.change) → Goes v w m
   leg_goes (Ok step) m w h chapter less = record {
     leads = leg_leads e leg x v (Ok step) m w h;
     chapter = chapter;
-    spent = subst (λ k. may_write w + written k ≤ may_write v) (sym h.move) (subst (λ k. may_write w + k ≤ may_write v) (sym (moved_written leg.0 x step.change)) less);
+    same_limit = less.0;
+    spent = subst (λ k. may_write w + written k ≤ may_write v) (sym h.move) (subst (λ k. may_write w + k ≤ may_write v) (sym (moved_written leg.0 x step.change)) less.1);
   }
   leg_goes (Err fault) m w h chapter less = same_goes v w m h.move (effect_same e v w fault h.effect) (leg_leads e leg x v (Err fault) m w h)
 
@@ -381,6 +404,9 @@ module _ (d : Dispatcher) (w : CoreView) (leg : LegId) (r : Result Step CoreFaul
   pub loss_goes : IsLostLeg v leg r m w → Goes v w m
   loss_goes h = leg_goes (loss_at v leg.0) leg (fixed_value Lost) v r m w h (loss_chapter v w leg.0 r h.effect) (loss_writes v w (view_is_core d) leg.0 r h.effect)
 
+  pub lost_too_goes : IsLostTooLeg v leg r m w → Goes v w m
+  lost_too_goes h = leg_goes (lost_too_at v leg.0) leg (fixed_value Lost) v r m w h (lost_too_chapter v w leg.0 r h.effect) (lost_too_writes v w (view_is_core d) leg.0 r h.effect)
+
   pub spooling_goes : (stored : Stored) → IsSpooledLeg v leg stored r m w → Goes v w m
   spooling_goes stored h =
       leg_goes (spooling_at v leg.0 stored.seq stored.«record».server stored.«record».rest) leg not_found v r m w h (spooling_chapter v w leg.0 r stored.seq stored.«record».server stored.«record».rest h.effect)
@@ -390,10 +416,10 @@ module _ (d : Dispatcher) (w : CoreView) (leg : LegId) (r : Result Step CoreFaul
   refusal_goes h = leg_goes (refusing_at v leg.0) leg (fixed_value Lost) v r m w h (refusing_chapter v w leg.0 r h.effect) (refusal_writes v w (view_is_core d) leg.0 r h.effect)
 
 pub marked_goes : (d : Dispatcher) (w : CoreView) (server : ServerId) (m : Option Move) → IsMarked (core_view d) server m w → Goes (core_view d) w m
-marked_goes d w server m h = none_goes (core_view d) w m h.none (move_leads (core_view d) w m None h.none h.does) (ap (λ z. z.chapter) h.view) (mark_writes (core_view d) w server.0 checked_mark h.view)
+marked_goes d w server m h = none_goes (core_view d) w m h.none (move_leads (core_view d) w m None h.none h.does) (ap (λ z. z.chapter) h.view) (ap (λ z. z.limit) h.view) (mark_writes (core_view d) w server.0 checked_mark h.view)
 
 pub unmarked_goes : (d : Dispatcher) (w : CoreView) (server : ServerId) (m : Option Move) → IsUnmarked (core_view d) server m w → Goes (core_view d) w m
-unmarked_goes d w server m h = none_goes (core_view d) w m h.none (move_leads (core_view d) w m None h.none h.does) (ap (λ z. z.chapter) h.view) (mark_writes (core_view d) w server.0 (λ mark. no_mark) h.view)
+unmarked_goes d w server m h = none_goes (core_view d) w m h.none (move_leads (core_view d) w m None h.none h.does) (ap (λ z. z.chapter) h.view) (ap (λ z. z.limit) h.view) (mark_writes (core_view d) w server.0 (λ mark. no_mark) h.view)
 
 clock_spends : (d : Dispatcher) (w : CoreView) (moment : Moment) (era : Option Era) (m : Option Move) → SetsClock (core_view d) moment era m w → may_write w + written (era_move era) ≤ may_write (core_view d)
 clock_spends d w moment None m h = let o = clock_writes_same (core_view d) w moment.0 (since_at (breaks_of (core_view d).routes) moment.0) h.forward h.view in omega (arith, o)
@@ -404,6 +430,7 @@ pub clock_goes : (d : Dispatcher) (w : CoreView) (moment : Moment) (r : Result (
 clock_goes d w moment (Ok era) m h = record {
   leads = clock_leads (core_view d) moment (Ok era) m w h;
   chapter = ap (λ z. z.chapter) h.view;
+  same_limit = ap (λ z. z.limit) h.view;
   spent = subst (λ k. may_write w + written k ≤ may_write (core_view d)) (sym h.move) (clock_spends d w moment era m h);
 }
 clock_goes d w moment (Err fault) m h = same_goes (core_view d) w m h.none h.same (clock_leads (core_view d) moment (Err fault) m w h)
@@ -412,10 +439,15 @@ same_chapter : (v : CoreView) (call : ℕ) (o : Option CallRow) → (taken_row v
 same_chapter v call None = refl
 same_chapter v call (Some c) = refl
 
+taken_limit : (v : CoreView) (call : ℕ) (o : Option CallRow) → (taken_row v call o).limit ≡ v.limit
+taken_limit v call None = refl
+taken_limit v call (Some c) = refl
+
 pub take_goes : (d : Dispatcher) (w : CoreView) (call : CallId) (r : Result (Option Part) CoreFault) (m : Option Move) → IsTaken (core_view d) call r m w → Goes (core_view d) w m
 take_goes d w call (Ok (Some part)) m h = record {
   leads = take_leads (core_view d) call (Ok (Some part)) m w h;
   chapter = ap (λ z. z.chapter) h.view ∙ same_chapter (core_view d) call.0 ((core_view d).rows.calls call.0);
+  same_limit = ap (λ z. z.limit) h.view ∙ taken_limit (core_view d) call.0 ((core_view d).rows.calls call.0);
   spent = subst (λ k. may_write w + written k ≤ may_write (core_view d)) (sym h.move) (take_writes (core_view d) w call.0 (view_is_core d) h.does.moves.is h.view);
 }
 take_goes d w call (Ok None) m h = same_goes (core_view d) w m h.none h.same (take_leads (core_view d) call (Ok None) m w h)

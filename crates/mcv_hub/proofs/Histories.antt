@@ -31,7 +31,7 @@ use Rattle.mcv_world.proofs.DeletesAreKept.{covered_worlds_are_kept}
 use Rattle.mcv_events.specs.Rows.{InSpool, LegRow, world_of}
 use Rattle.mcv_events.specs.Runs.{OpenedRecord, opened, spooled_row}
 use Rattle.mcv_events.proofs.CoresKeepDeletes.{opened_is_core, spooled_rows_open}
-use Rattle.mcv_core.specs.Opening.{known_records, opened_view}
+use Rattle.mcv_core.specs.Opening.{known_records, opened_within}
 use Rattle.mcv_core.specs.CoreView.{CoreView, Moved, Does, IsQuiet, change_move}
 use Rattle.mcv_core.specs.Chapters.{era_move}
 use Rattle.mcv_core.specs.Asking.{IsUnbegun}
@@ -209,15 +209,15 @@ abbrev pub Holds : (start v : CoreView) (es : List Entry) (c b t bb tb len capac
 Holds start v es c b t bb tb len capacity places breaks = IsHub v es c b t bb tb × HasRoom len capacity places (may_write v) × (breaks ≡ break_count v.routes) × IsOpenedAs start v es c
 
 -- it stays the hub that was opened so
-opened_goes : (start v w : CoreView) (es es2 : List Entry) (c : ℕ) (m : Option Move) → Leads v w m → Writes v.routes es m es2 → IsOpenedAs start v es c → IsOpenedAs start w es2 c
-opened_goes start v w es es2 c m leads writes h = record { routes = leads_routes v w m leads ∙ h.routes; from = λ first. history_goes v w (world_of start.rows) es es2 (h.from first) m leads writes }
+opened_goes : (start v w : CoreView) (es es2 : List Entry) (c : ℕ) (m : Option Move) → Leads v w m → w.limit ≡ v.limit → Writes v.routes es m es2 → IsOpenedAs start v es c → IsOpenedAs start w es2 c
+opened_goes start v w es es2 c m leads limit writes h = record { routes = leads_routes v w m leads ∙ h.routes; limit = limit ∙ h.limit; from = λ first. history_goes v w (world_of start.rows) es es2 (h.from first) m leads writes }
 
 opened_same : (start v w : CoreView) (es es2 : List Entry) (c : ℕ) → w ≡ v → es2 ≡ es → IsOpenedAs start v es c → IsOpenedAs start w es2 c
 opened_same start v w es es2 c same items h = subst (λ z. IsOpenedAs start z es2 c) (sym same) (subst (λ z. IsOpenedAs start v z c) (sym items) h)
 
 -- no later chapter is the first one
-opened_turns : (start v w : CoreView) (es es2 : List Entry) (c c' : ℕ) → w.routes ≡ v.routes → 0 < c' → IsOpenedAs start v es c → IsOpenedAs start w es2 c'
-opened_turns start v w es es2 c c' same later h = record { routes = same ∙ h.routes; from = λ first. absurd (omega (arith, later, first)) }
+opened_turns : (start v w : CoreView) (es es2 : List Entry) (c c' : ℕ) → w.routes ≡ v.routes → w.limit ≡ v.limit → 0 < c' → IsOpenedAs start v es c → IsOpenedAs start w es2 c'
+opened_turns start v w es es2 c c' same limit later h = record { routes = same ∙ h.routes; limit = limit ∙ h.limit; from = λ first. absurd (omega (arith, later, first)) }
 
 module _ {start : CoreView} (v w : CoreView) (es : List Entry) (c b t bb tb len capacity places breaks : ℕ) (h : Holds start v es c b t bb tb len capacity places breaks) where
   -- an event that doesn't begin a call
@@ -227,7 +227,7 @@ module _ {start : CoreView} (v w : CoreView) (es : List Entry) (c b t bb tb len 
     hub_goes v w es es2 c b t bb tb b2 t2 m h.0 g.leads g.chapter writes more_begun more_taken,
     room_stays len len2 capacity capacity2 places (may_write v) (may_write w) (written m) h.1 g.spent longer kept,
     h.2 ∙ ap break_count (sym (leads_routes v w m g.leads)),
-    opened_goes start v w es es2 c m g.leads writes h.3,
+    opened_goes start v w es es2 c m g.leads g.same_limit writes h.3,
   )
 
   -- a call that began
@@ -239,7 +239,7 @@ module _ {start : CoreView} (v w : CoreView) (es : List Entry) (c b t bb tb len 
         let spent = g.spent in
         record { within = omega (arith, within, spent, longer, grown); kept = kept; small = small },
     h.2 ∙ ap break_count (sym (leads_routes v w m g.leads)),
-    opened_goes start v w es es2 c m g.leads writes h.3,
+    opened_goes start v w es es2 c m g.leads g.same_limit writes h.3,
   )
 
   -- a call that was refused, when the history had more room
@@ -255,9 +255,9 @@ module _ {start : CoreView} (v w : CoreView) (es : List Entry) (c b t bb tb len 
   )
 
   -- a chapter that began
-  pub turn_holds : (es' : List Entry) (c' places' bb' tb' len' capacity' : ℕ) → w.routes ≡ v.routes → IsQuiet w → 0 < c' → c' ≡ w.chapter → bb' ≡ b → tb' ≡ t → bb' < 2 ^ 63 → tb' < 2 ^ 63 → may_write w ≤ may_write v → places' ≤ places
+  pub turn_holds : (es' : List Entry) (c' places' bb' tb' len' capacity' : ℕ) → w.routes ≡ v.routes → w.limit ≡ v.limit → IsQuiet w → 0 < c' → c' ≡ w.chapter → bb' ≡ b → tb' ≡ t → bb' < 2 ^ 63 → tb' < 2 ^ 63 → may_write w ≤ may_write v → places' ≤ places
       → (places' ≡ places) ⊎ (may_write w ≤ places') → es' ≡ [] → len' ≡ 0 → places' ≤ capacity' → Holds start w es' c' b t bb' tb' len' capacity' places' breaks
-  turn_holds es' c' places' bb' tb' len' capacity' same q later chapter begun taken small few less lesser either empty zero kept = (
+  turn_holds es' c' places' bb' tb' len' capacity' same limit q later chapter begun taken small few less lesser either empty zero kept = (
     subst (λ z. IsHub w z c' b t bb' tb') (sym empty) (hub_after_turn v w c' b t bb' tb' h.0.covered same q chapter begun taken small few),
     let within = h.1.within in
         let least = h.1.small in
@@ -267,15 +267,15 @@ module _ {start : CoreView} (v w : CoreView) (es : List Entry) (c b t bb tb len 
           small = omega (arith, least, lesser);
         },
     h.2 ∙ ap break_count (sym same),
-    opened_turns start v w es es' c c' same later h.3,
+    opened_turns start v w es es' c c' same limit later h.3,
   )
 
 spooled_is : (o : Option OpenedRecord) (s : LegRow) → option_map spooled_row o ≡ Some s → s.state ≡ InSpool
 spooled_is None s e = no_some e
 spooled_is (Some x) s e = ap (λ (z : LegRow). z.state) (sym (same_some e))
 
-opened_history : (r : RoutesValue) (records : List (ℕ × SpoolRecord)) → let w = world_of (opened_view r records).rows in IsHistoryFrom r w w []
-opened_history r records =
+opened_history : (limit : ℕ) (r : RoutesValue) (records : List (ℕ × SpoolRecord)) → let w = world_of (opened_within limit r records).rows in IsHistoryFrom r w w []
+opened_history limit r records =
     let known = known_records r.servers records in
     let since = since_at (breaks_of r) 0 in
     let w = opened since known in
@@ -283,17 +283,17 @@ opened_history r records =
     record { moves = []; are = none; opens = o.0; legal = tt; replays = o.1 }
 
 -- a core that was opened
-pub opened_holds : (start w : CoreView) (r : RoutesValue) (records : List (ℕ × SpoolRecord)) (es : List Entry) (b t len capacity places breaks : ℕ) → start ≡ opened_view r records → w ≡ opened_view r records → AreCovered r → es ≡ [] → b ≡ 0 → t ≡ 0 → len ≡ 0
+pub opened_holds : (start w : CoreView) (limit : ℕ) (r : RoutesValue) (records : List (ℕ × SpoolRecord)) (es : List Entry) (b t len capacity places breaks : ℕ) → start ≡ opened_within limit r records → w ≡ opened_within limit r records → AreCovered r → es ≡ [] → b ≡ 0 → t ≡ 0 → len ≡ 0
     → may_write w ≤ places → places ≤ capacity → places ≤ 2 ^ 62 → breaks ≡ break_count r → Holds start w es 0 b t 0 0 len capacity places breaks
-opened_holds start w r records es b t len capacity places breaks its same covered empty begun taken zero fewer kept small count = (
-  subst (λ z. IsHub z es 0 b t 0 0) (sym same) (subst (λ z. IsHub (opened_view r records) z 0 b t 0 0) (sym empty) hub),
+opened_holds start w limit r records es b t len capacity places breaks its same covered empty begun taken zero fewer kept small count = (
+  subst (λ z. IsHub z es 0 b t 0 0) (sym same) (subst (λ z. IsHub (opened_within limit r records) z 0 b t 0 0) (sym empty) hub),
   record { within = omega (arith, zero, fewer); kept = kept; small = small },
   count ∙ ap (λ z. break_count z.routes) (sym same),
-  subst (λ z. IsOpenedAs z w es 0) (sym its) (subst (λ z. IsOpenedAs (opened_view r records) z es 0) (sym same) (subst (λ z. IsOpenedAs (opened_view r records) (opened_view r records) z 0) (sym empty) (record { routes = refl; from = λ first. opened_history r records }))),
+  subst (λ z. IsOpenedAs z w es 0) (sym its) (subst (λ z. IsOpenedAs (opened_within limit r records) z es 0) (sym same) (subst (λ z. IsOpenedAs (opened_within limit r records) (opened_within limit r records) z 0) (sym empty) (record { routes = refl; limit = refl; from = λ first. opened_history limit r records }))),
 )
   where
-    hub : IsHub (opened_view r records) [] 0 b t 0 0
-    hub = record { covered = covered; legal = record { opening = world_of (opened_view r records).rows; from = opened_history r records }; chapter_is = refl; begun_is = omega (arith, begun); taken_is = omega (arith, taken); begun_small = omega arith; taken_small = omega arith }
+    hub : IsHub (opened_within limit r records) [] 0 b t 0 0
+    hub = record { covered = covered; legal = record { opening = world_of (opened_within limit r records).rows; from = opened_history limit r records }; chapter_is = refl; begun_is = omega (arith, begun); taken_is = omega (arith, taken); begun_small = omega arith; taken_small = omega arith }
 
 -- ---- what events say of the hub
 

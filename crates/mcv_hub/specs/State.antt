@@ -46,9 +46,11 @@ pub record HistoryKeepsDeletes (v : CoreView) (history : List Entry) : Type 0 wh
   pub legal : IsHistory v.routes (world_of v.rows) history
   pub keeps : KeepsDeletes v (run v.routes legal.opening legal.from.moves)
 
--- the hub is the one that was opened with this core: it has its routes, and in its first chapter a history that leads from there
+-- the hub is the one that was opened with this core: it has its routes and its limit of legs in flight, and in its first chapter a
+-- history that leads from there
 pub record IsOpenedAs (opened v : CoreView) (history : List Entry) (chapter : ℕ) : Type 0 where
   pub routes : v.routes ≡ opened.routes
+  pub limit : v.limit ≡ opened.limit
   pub from : chapter ≡ 0 → IsHistoryFrom v.routes (world_of opened.rows) (world_of v.rows) history
 
 -- the entries that the core may still write have their places, and all of them can be counted

@@ -2,7 +2,7 @@
 
 ghost use Rattle.std.specs.Prelude.{◌≡◌, ◌+◌, IfOk, OnOk, IfErr, IfSome, count_by};
 ghost use Rattle.std.specs.Arc.{arc_value};
-ghost use Rattle.mcv_core.specs.Events.{IsAnsweredLeg, IsClocked, IsLostLeg, IsMarked, IsNext, IsRefusedLeg, IsReplay, IsSpooledLeg, IsTaken, IsUnmarked};
+ghost use Rattle.mcv_core.specs.Events.{IsAnsweredLeg, IsClocked, IsLostLeg, IsLostTooLeg, IsMarked, IsNext, IsRefusedLeg, IsReplay, IsSpooledLeg, IsTaken, IsUnmarked};
 ghost use Rattle.mcv_core.specs.View.{core_view};
 ghost use Rattle.mcv_hub.specs.Events.{IsHubEvent, IsReceived, IsRequested, taken_part};
 ghost use Rattle.mcv_hub.specs.Gate.{IsGate, IsHubBegun, IsHubTurn, is_chapter_due};
@@ -154,8 +154,8 @@ impl<'a, B: HubLedger, T: Ledger> Guard<'a, B, T> {
         self.state.take_reply(seat, call)
     }
 
-    /// Sends the first leg that waits for a server: the one with the least number. An error is Busy, where a leg of the
-    /// server is in flight, or NothingWaiting.
+    /// Sends the first leg that waits for a server: the one with the least number. An error is Busy, where as many legs of the
+    /// server are in flight as may be, or NothingWaiting.
     pub fn next(&mut self, server: ServerId) -> Result<LegId, CoreFault>
         ensures { IsHubEvent (IsNext (core_view self.old.core) server result) self.old self.new }
     {
@@ -177,11 +177,21 @@ impl<'a, B: HubLedger, T: Ledger> Guard<'a, B, T> {
         self.state.answered(leg, reply)
     }
 
-    /// A leg in flight was lost. It takes no memory. An error is NoSuchLeg, where the leg isn't in flight.
+    /// A leg in flight was lost, and its server has one failure more. It takes no memory. An error is NoSuchLeg, where the leg
+    /// isn't in flight.
     pub fn lost(&mut self, leg: LegId) -> Result<Step, CoreFault>
         ensures { IsHubEvent (IsLostLeg (core_view self.old.core) leg result) self.old self.new }
     {
         self.state.lost(leg)
+    }
+
+    /// A leg in flight was lost too, with the connection of which another leg's loss has told: its server has no failure more.
+    /// The connection's oldest leg is `lost`, and each other one of it `lost_too`. It takes no memory. An error is NoSuchLeg,
+    /// where the leg isn't in flight.
+    pub fn lost_too(&mut self, leg: LegId) -> Result<Step, CoreFault>
+        ensures { IsHubEvent (IsLostTooLeg (core_view self.old.core) leg result) self.old self.new }
+    {
+        self.state.lost_too(leg)
     }
 
     /// A held leg is stored in the spool, where the record is its server's text and its rest. The leg keeps the record's
@@ -275,7 +285,8 @@ impl<'a, B: HubLedger, T: Ledger> Guard<'a, B, T> {
         self.state.deletes_are_kept()
     }
 
-    /// The hub has the routes that it was opened with, and in its first chapter a history that leads from how it was opened.
+    /// The hub has the routes and the limit of legs in flight that it was opened with, and in its first chapter a history that
+    /// leads from how it was opened.
     pub fn is_opened(&self)
         ensures { IsOf B.opened self.now }
     {

@@ -2,7 +2,8 @@
 
 ghost use Rattle.std.specs.Prelude.{◌≡◌, ◌+◌, IfErr, IfOk};
 ghost use Rattle.std.specs.Arc.{arc_value};
-ghost use Rattle.mcv_core.specs.Opening.{opened_view};
+ghost use Rattle.std.specs.Int.NonZero.{non_zero_usize_get};
+ghost use Rattle.mcv_core.specs.Opening.{opened_within};
 ghost use Rattle.mcv_hub.specs.Gate.{is_closed, is_chapter_due};
 ghost use Rattle.mcv_core.specs.declared.fault.CoreFault.TheVariants.{Memory as OutOfMemory};
 
@@ -19,6 +20,7 @@ use mcv_spool::SpoolRecord;
 use std::alloc::{AllocError, Global};
 use std::hint::spin_loop;
 use std::marker::Model;
+use std::num::NonZeroUsize;
 use std::rt::Clock;
 use std::sync::ledger::{Blank, Ledger};
 use std::sync::{Arc, Condvar, Mutex, Wait};
@@ -82,6 +84,8 @@ fn bells(alloc: Global, count: usize) -> Result<Vec<Condvar>, AllocError> {
 /// How many there are to be of what a hub begins with.
 #[derive(Clone, Copy, Debug, PartialEq, Eq)]
 pub struct Capacity {
+    /// How many legs of a server may be in flight at a time.
+    pub flights: NonZeroUsize,
     /// How many bells sessions wait at.
     pub bells: usize,
     /// How many seats there are for sessions.
@@ -113,7 +117,8 @@ impl Patience {
 
 impl<B: HubLedger, T: Ledger> Hub<B, T> {
     /// The hub of this number over these routes, with the records that the spool held, in its first chapter, with bells for
-    /// their servers and for sessions, and what makes its passes and seats. The one error is Memory.
+    /// their servers and for sessions, and what makes its passes and seats. Of each server as many legs may be in flight at a
+    /// time as the capacity says. The one error is Memory.
     pub fn new(
         alloc: Global,
         accepted: Arc<Accepted>,
@@ -126,7 +131,7 @@ impl<B: HubLedger, T: Ledger> Hub<B, T> {
         requires begun { (begun.name ≡ B.name) × (begun.parts ≡ B.parts) × (begun.parts ≡ capacity.seats + 1) }
         requires taken { (taken.name ≡ T.name) × (taken.parts ≡ T.parts) × (taken.parts ≡ capacity.seats + 1) }
         requires number { hub ≡ B.number }
-        requires opened { B.opened ≡ opened_view (arc_value accepted) records.now }
+        requires opened { B.opened ≡ opened_within (non_zero_usize_get capacity.flights) (arc_value accepted) records.now }
         ensures seats { IfOk result (λ r. r.1.left ≡ capacity.seats) }
         ensures err { IfErr result (λ fault. fault ≡ OutOfMemory) }
     {
@@ -139,7 +144,9 @@ impl<B: HubLedger, T: Ledger> Hub<B, T> {
         let Ok(known) = Arc::try_clone(&accepted) else {
             return Err(CoreFault::Memory);
         };
-        let (state, begun, taken) = HubState::new(alloc, known, hub, records, begun, taken)?;
+        let limit = capacity.flights;
+        let blanks = (begun, taken);
+        let (state, begun, taken) = HubState::new(alloc, known, hub, limit, records, blanks)?;
         let hub = Hub {
             accepted,
             state: Mutex::new(state),

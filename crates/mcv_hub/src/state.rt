@@ -2,10 +2,11 @@
 
 ghost use Rattle.std.specs.Prelude.{◌≡◌, ◌+◌, ◌<◌, ◌≤◌, ◌^◌, ◌⊎◌, ◌||◌, [], false, IfOk, OnOk, IfErr, IfSome, count_by, nat_le, vec_len, vec_capacity, None, MatchOption};
 ghost use Rattle.std.specs.Arc.{arc_value};
+ghost use Rattle.std.specs.Int.NonZero.{non_zero_usize_get};
 ghost use Rattle.mcv_pools.specs.Hash.{fnv_index};
 ghost use Rattle.mcv_symbolic.specs.CoveredRoutes.{AreCovered};
-ghost use Rattle.mcv_core.specs.Events.{IsAnsweredLeg, IsBegun, IsClocked, IsLostLeg, IsMarked, IsNext, IsRefusedLeg, IsReplay, IsSpooledLeg, IsTaken, IsUnmarked};
-ghost use Rattle.mcv_core.specs.Opening.{opened_view};
+ghost use Rattle.mcv_core.specs.Events.{IsAnsweredLeg, IsBegun, IsClocked, IsLostLeg, IsLostTooLeg, IsMarked, IsNext, IsRefusedLeg, IsReplay, IsSpooledLeg, IsTaken, IsUnmarked};
+ghost use Rattle.mcv_core.specs.Opening.{opened_within};
 ghost use Rattle.mcv_core.specs.View.{core_view};
 ghost use Rattle.mcv_core.specs.declared.fault.CoreFault.TheVariants.{Memory as OutOfMemory};
 ghost use Rattle.mcv_hub.specs.Events.{IsHubEvent, IsReceived, IsRequested, taken_part};
@@ -29,6 +30,7 @@ use mcv_pools::Fnv;
 use mcv_spool::{SpoolRecord, Stored};
 use std::alloc::Global;
 use std::marker::Model;
+use std::num::NonZeroUsize;
 use std::sync::Arc;
 use std::sync::ledger::{Blank, Book, Ledger, Share};
 
@@ -159,21 +161,22 @@ fn is_due_with(before: usize, entries: usize, bytes: u64) -> bool
 impl<B: HubLedger, T: Ledger> HubState<B, T> {
     ghost use Rattle.mcv_hub.specs.State.{HistoryKeepsDeletes, IsCallOf, IsOf, IsSame};
 
-    /// A core over these routes with the records that the spool held, in the first chapter of the hub of this number, and the
-    /// shares that count all its calls and replies. The one error is Memory.
+    /// A core over these routes with the records that the spool held, in which so many legs of each server may be in flight at a
+    /// time, in the first chapter of the hub of this number, and the shares that count all its calls and replies. The first blank
+    /// is that of the calls. The one error is Memory.
     pub(crate) fn new(
         alloc: Global,
         accepted: Arc<Accepted>,
         hub: usize,
+        limit: NonZeroUsize,
         records: &[(u64, SpoolRecord)],
-        begun: Blank,
-        taken: Blank,
+        blanks: (Blank, Blank),
     ) -> Result<(HubState<B, T>, Share<B>, Share<T>), CoreFault>
-        requires begun { (begun.name ≡ B.name) × (begun.parts ≡ B.parts) }
-        requires taken { (taken.name ≡ T.name) × (taken.parts ≡ T.parts) }
+        requires begun { (blanks.0.name ≡ B.name) × (blanks.0.parts ≡ B.parts) }
+        requires taken { (blanks.1.name ≡ T.name) × (blanks.1.parts ≡ T.parts) }
         requires number { hub ≡ B.number }
-        requires opened { B.opened ≡ opened_view (arc_value accepted) records.now }
-        ensures view { IfOk result (λ r. core_view r.0.core ≡ opened_view (arc_value accepted) records.now) }
+        requires opened { B.opened ≡ opened_within (non_zero_usize_get limit) (arc_value accepted) records.now }
+        ensures view { IfOk result (λ r. core_view r.0.core ≡ opened_within (non_zero_usize_get limit) (arc_value accepted) records.now) }
         ensures history { IfOk result (λ r. (r.0.history ≡ []) × (r.0.hub ≡ hub) × (r.0.chapter ≡ 0)) }
         ensures due { IfOk result (λ r. is_chapter_due r.0 ≡ false) }
         ensures begun { IfOk result (λ r. (r.1.parts ≡ B.parts) × (r.1.amount ≡ 0) × (r.0.begun ≡ 0)) }
@@ -181,7 +184,7 @@ impl<B: HubLedger, T: Ledger> HubState<B, T> {
         ensures err { IfErr result (λ fault. fault ≡ OutOfMemory) }
     {
         let breaks = count_breaks(&accepted);
-        let core = Core::new(alloc, accepted, Fnv, records)?;
+        let core = Core::with_limit(alloc, accepted, Fnv, records, limit)?;
         let before = core.state().entries();
         let Some(places) = places_for(before, breaks) else {
             return Err(CoreFault::Memory);
@@ -189,6 +192,7 @@ impl<B: HubLedger, T: Ledger> HubState<B, T> {
         let Ok(history) = History::new(alloc, places) else {
             return Err(CoreFault::Memory);
         };
+        let (begun, taken) = blanks;
         let (begun, begun_share) = begun.open::<B>();
         let (taken, taken_share) = taken.open::<T>();
         let state = HubState {
@@ -350,6 +354,18 @@ impl<B: HubLedger, T: Ledger> HubState<B, T> {
         ensures { IsHubEvent (IsLostLeg (core_view self.old.core) leg result) self.old self.new }
     {
         let answer = self.core.events().lost(leg);
+        write(
+            &mut self.history,
+            leg_entry(leg, Part::Fixed(FixedReply::Lost), change_of(&answer)),
+        );
+        answer
+    }
+
+    /// A leg in flight was lost too, with the connection of which another leg's loss has told.
+    pub(crate) fn lost_too(&mut self, leg: LegId) -> Result<Step, CoreFault>
+        ensures { IsHubEvent (IsLostTooLeg (core_view self.old.core) leg result) self.old self.new }
+    {
+        let answer = self.core.events().lost_too(leg);
         write(
             &mut self.history,
             leg_entry(leg, Part::Fixed(FixedReply::Lost), change_of(&answer)),

@@ -2,7 +2,8 @@
 
 ghost use Rattle.std.specs.Prelude.{◌≡◌, ◌+◌, ◌<◌, ◌≤◌, ℕ, IfErr, IfOk};
 ghost use Rattle.std.specs.Arc.{arc_value};
-ghost use Rattle.mcv_core.specs.Opening.{opened_view};
+ghost use Rattle.std.specs.Int.NonZero.{non_zero_usize_get};
+ghost use Rattle.mcv_core.specs.Opening.{opened_within};
 ghost use Rattle.mcv_core.specs.declared.fault.CoreFault.TheVariants.{Memory as OutOfMemory};
 ghost use Rattle.mcv_hubs.specs.Blanks.{AreOf, OpenFour, Opens};
 ghost use Rattle.mcv_hubs.specs.Choice.{records_at};
@@ -90,7 +91,7 @@ fn open<B: HubLedger, T: Ledger>(
     requires number { hub ≡ B.number }
     requires begun { Opens B.name B.parts (stock.now.capacity.seats + 1) begun }
     requires taken { Opens T.name T.parts (stock.now.capacity.seats + 1) taken }
-    requires opened { B.opened ≡ opened_view (arc_value stock.now.accepted.now) (records_at stock.now.choice.now hub stock.now.records.now) }
+    requires opened { B.opened ≡ opened_within (non_zero_usize_get stock.now.capacity.flights) (arc_value stock.now.accepted.now) (records_at stock.now.choice.now hub stock.now.records.now) }
     ensures seats { IfOk result (λ r. r.passes.left ≡ stock.now.capacity.seats) }
     ensures err { IfErr result (λ fault. fault ≡ OutOfMemory) }
 {
@@ -114,7 +115,7 @@ fn open_first<F: HubNames, G: Names>(
 ) -> Result<FirstHubs<F, G>, CoreFault>
     requires begun { OpenFour F.name_of F.parts_of (stock.now.capacity.seats + 1) 0 begun.0 begun.1 begun.2 begun.3 }
     requires taken { OpenFour G.name_of G.parts_of (stock.now.capacity.seats + 1) 0 taken.0 taken.1 taken.2 taken.3 }
-    requires opened { (hub : ℕ) → F.opened_of hub ≡ opened_view (arc_value stock.now.accepted.now) (records_at stock.now.choice.now hub stock.now.records.now) }
+    requires opened { (hub : ℕ) → F.opened_of hub ≡ opened_within (non_zero_usize_get stock.now.capacity.flights) (arc_value stock.now.accepted.now) (records_at stock.now.choice.now hub stock.now.records.now) }
     ensures seats { IfOk result (λ r. (r.opened0.passes.left ≡ stock.now.capacity.seats) × (r.opened1.passes.left ≡ stock.now.capacity.seats) × (r.opened2.passes.left ≡ stock.now.capacity.seats) × (r.opened3.passes.left ≡ stock.now.capacity.seats)) }
     ensures err { IfErr result (λ fault. fault ≡ OutOfMemory) }
 {
@@ -138,7 +139,7 @@ fn open_last<F: HubNames, G: Names>(
 ) -> Result<LastHubs<F, G>, CoreFault>
     requires begun { OpenFour F.name_of F.parts_of (stock.now.capacity.seats + 1) 4 begun.0 begun.1 begun.2 begun.3 }
     requires taken { OpenFour G.name_of G.parts_of (stock.now.capacity.seats + 1) 4 taken.0 taken.1 taken.2 taken.3 }
-    requires opened { (hub : ℕ) → F.opened_of hub ≡ opened_view (arc_value stock.now.accepted.now) (records_at stock.now.choice.now hub stock.now.records.now) }
+    requires opened { (hub : ℕ) → F.opened_of hub ≡ opened_within (non_zero_usize_get stock.now.capacity.flights) (arc_value stock.now.accepted.now) (records_at stock.now.choice.now hub stock.now.records.now) }
     ensures seats { IfOk result (λ r. (r.opened4.passes.left ≡ stock.now.capacity.seats) × (r.opened5.passes.left ≡ stock.now.capacity.seats) × (r.opened6.passes.left ≡ stock.now.capacity.seats) × (r.opened7.passes.left ≡ stock.now.capacity.seats)) }
     ensures err { IfErr result (λ fault. fault ≡ OutOfMemory) }
 {
@@ -215,7 +216,7 @@ impl<F: HubNames, G: Names> Hubs<F, G> {
     ) -> Result<(Hubs<F, G>, HubPasses<F, G>), CoreFault>
         requires begun { AreOf F.name_of F.parts_of (capacity.seats + 1) begun }
         requires taken { AreOf G.name_of G.parts_of (capacity.seats + 1) taken }
-        requires opened { (hub : ℕ) → F.opened_of hub ≡ opened_view (arc_value accepted) (records_at choice hub records.now) }
+        requires opened { (hub : ℕ) → F.opened_of hub ≡ opened_within (non_zero_usize_get capacity.flights) (arc_value accepted) (records_at choice hub records.now) }
         ensures choice { IfOk result (λ r. r.0.choice ≡ choice) }
         ensures seats { IfOk result (λ r. r.1 ≡ capacity.seats) }
         ensures err { IfErr result (λ fault. fault ≡ OutOfMemory) }

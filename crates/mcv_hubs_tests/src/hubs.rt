@@ -13,6 +13,7 @@ use mcv_core::CoreFault;
 use mcv_hub::{Capacity, Hub, HubLedger, LegReply, Pass, Receipt, Report};
 use mcv_hubs::{Blanks, HubChoice, HubNames, HubPasses, Hubs, Names, Seats};
 use std::marker::Brand;
+use std::num::NonZeroUsize;
 use std::process::Abort;
 use std::rt::Clock;
 use std::sync::ledger::Ledger;
@@ -137,6 +138,7 @@ fn two_sessions<
     let alloc = rt.alloc();
     let choice = HubChoice::new(alloc, count).expect(&rt, "hubs");
     let capacity = Capacity {
+        flights: NonZeroUsize::MIN,
         bells: 4,
         seats: SEATS,
     };

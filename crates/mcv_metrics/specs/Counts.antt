@@ -3,7 +3,7 @@ use Rattle.std.specs.Prelude.{ℕ, List}
 use Rattle.mcv_metrics.specs.declared.metric.WordMetric.{WordMetric}
 use Rattle.mcv_metrics.specs.declared.metric.WordMetric.TheVariants.{Calls, Replies, Refusals}
 use Rattle.mcv_metrics.specs.declared.metric.ServerMetric.{ServerMetric}
-use Rattle.mcv_metrics.specs.declared.metric.ServerMetric.TheVariants.{Sent, Lost, Marked, Replayed}
+use Rattle.mcv_metrics.specs.declared.metric.ServerMetric.TheVariants.{Sent, Lost, Waiting, Marked, Replayed}
 use Rattle.mcv_metrics.specs.declared.metric.SpoolMetric.{SpoolMetric}
 use Rattle.mcv_metrics.specs.declared.metric.SpoolMetric.TheVariants.{Spooled, Pending, Slots, Refusing}
 use Rattle.mcv_metrics.specs.declared.metric.HubMetric.{HubMetric}
@@ -25,6 +25,7 @@ word_counts counts Refusals = counts.refusals.items
 abbrev pub server_count : ServerCounts → ServerMetric → ℕ
 server_count counts Sent = counts.sent
 server_count counts Lost = counts.lost
+server_count counts Waiting = counts.waiting
 server_count counts Marked = counts.marked
 server_count counts Replayed = counts.replayed
 

@@ -7,7 +7,7 @@ use Rattle.mcv_metrics.specs.declared.metric.Metric.{Metric}
 use Rattle.mcv_metrics.specs.declared.metric.Metric.TheVariants.{Words, Servers, Spool, Hubs, Clients, Uptime, Build}
 use Rattle.mcv_metrics.specs.declared.metric.WordMetric.{WordMetric}
 use Rattle.mcv_metrics.specs.declared.metric.WordMetric.TheVariants.{Calls, Replies, Refusals}
-use Rattle.mcv_metrics.specs.declared.metric.ServerMetric.TheVariants.{Sent, Lost, Marked, Replayed}
+use Rattle.mcv_metrics.specs.declared.metric.ServerMetric.TheVariants.{Sent, Lost, Waiting, Marked, Replayed}
 use Rattle.mcv_metrics.specs.declared.metric.SpoolMetric.TheVariants.{Spooled, Pending, Slots, Refusing}
 use Rattle.mcv_metrics.specs.declared.metric.HubMetric.TheVariants.{Entries, Bytes, Turned}
 use Rattle.mcv_metrics.specs.declared.metric.ClientMetric.TheVariants.{Connected, Accepted, Refused}
@@ -16,7 +16,7 @@ use Rattle.mcv_metrics.specs.declared.metric.ClientMetric.TheVariants.{Connected
 abbrev pub metrics : List Metric
 metrics =
     Words Calls ∷ Words Replies ∷ Words Refusals
-    ∷ Servers Sent ∷ Servers Lost ∷ Servers Marked ∷ Servers Replayed
+    ∷ Servers Sent ∷ Servers Lost ∷ Servers Waiting ∷ Servers Marked ∷ Servers Replayed
     ∷ Spool Spooled ∷ Spool Pending ∷ Spool Slots ∷ Spool Refusing
     ∷ Hubs Entries ∷ Hubs Bytes ∷ Hubs Turned
     ∷ Clients Connected ∷ Clients Accepted ∷ Clients Refused
@@ -28,6 +28,7 @@ metric_name (Words Replies) = codes "mcv_replies_total"
 metric_name (Words Refusals) = codes "mcv_refusals_total"
 metric_name (Servers Sent) = codes "mcv_legs_sent_total"
 metric_name (Servers Lost) = codes "mcv_legs_lost_total"
+metric_name (Servers Waiting) = codes "mcv_legs_waiting"
 metric_name (Servers Marked) = codes "mcv_server_marked"
 metric_name (Servers Replayed) = codes "mcv_records_replayed_total"
 metric_name (Spool Spooled) = codes "mcv_records_spooled_total"
@@ -49,6 +50,7 @@ metric_help (Words Replies) = codes "Replies to these calls, by outcome."
 metric_help (Words Refusals) = codes "Requests that were refused, by cause."
 metric_help (Servers Sent) = codes "Legs begun, by server."
 metric_help (Servers Lost) = codes "Legs that got no reply, by server."
+metric_help (Servers Waiting) = codes "Legs that waited to be sent when they were last counted, by server."
 metric_help (Servers Marked) = codes "Hubs that have marked the server as down, by server."
 metric_help (Servers Replayed) = codes "Deletes of the spool that the server has performed, by server."
 metric_help (Spool Spooled) = codes "Deletes that were written into the spool."
@@ -71,6 +73,7 @@ metric_kind (Words Replies) = Counter
 metric_kind (Words Refusals) = Counter
 metric_kind (Servers Sent) = Counter
 metric_kind (Servers Lost) = Counter
+metric_kind (Servers Waiting) = Gauge
 metric_kind (Servers Marked) = Gauge
 metric_kind (Servers Replayed) = Counter
 metric_kind (Spool Spooled) = Counter

@@ -51,6 +51,7 @@ impl WordMetric {
 pub enum ServerMetric {
     Sent,
     Lost,
+    Waiting,
     Marked,
     Replayed,
 }
@@ -103,6 +104,7 @@ impl Metric {
             Metric::Words(WordMetric::Refusals) => "mcv_refusals_total",
             Metric::Servers(ServerMetric::Sent) => "mcv_legs_sent_total",
             Metric::Servers(ServerMetric::Lost) => "mcv_legs_lost_total",
+            Metric::Servers(ServerMetric::Waiting) => "mcv_legs_waiting",
             Metric::Servers(ServerMetric::Marked) => "mcv_server_marked",
             Metric::Servers(ServerMetric::Replayed) => "mcv_records_replayed_total",
             Metric::Spool(SpoolMetric::Spooled) => "mcv_records_spooled_total",
@@ -130,6 +132,9 @@ impl Metric {
             Metric::Words(WordMetric::Refusals) => "Requests that were refused, by cause.",
             Metric::Servers(ServerMetric::Sent) => "Legs begun, by server.",
             Metric::Servers(ServerMetric::Lost) => "Legs that got no reply, by server.",
+            Metric::Servers(ServerMetric::Waiting) => {
+                "Legs that waited to be sent when they were last counted, by server."
+            }
             Metric::Servers(ServerMetric::Marked) => {
                 "Hubs that have marked the server as down, by server."
             }

@@ -45,6 +45,8 @@ pub struct ServerCounts {
     pub sent: u64,
     /// Legs of these that got no reply, in all.
     pub lost: u64,
+    /// Legs that waited to be sent to it when they were last counted.
+    pub waiting: u64,
     /// How many hubs have marked it as down now.
     pub marked: u64,
     /// Deletes of the spool that it has performed, in all.
@@ -59,6 +61,7 @@ impl ServerCounts {
         match metric {
             ServerMetric::Sent => self.sent,
             ServerMetric::Lost => self.lost,
+            ServerMetric::Waiting => self.waiting,
             ServerMetric::Marked => self.marked,
             ServerMetric::Replayed => self.replayed,
         }

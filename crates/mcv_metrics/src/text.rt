@@ -15,12 +15,13 @@ use std::alloc::{AllocError, Global};
 pub const CONTENT_TYPE: &str = "text/plain; version=0.0.4; charset=utf-8";
 
 /// All families, in the order of the text.
-const METRICS: [Metric; 19] = [
+const METRICS: [Metric; 20] = [
     Metric::Words(WordMetric::Calls),
     Metric::Words(WordMetric::Replies),
     Metric::Words(WordMetric::Refusals),
     Metric::Servers(ServerMetric::Sent),
     Metric::Servers(ServerMetric::Lost),
+    Metric::Servers(ServerMetric::Waiting),
     Metric::Servers(ServerMetric::Marked),
     Metric::Servers(ServerMetric::Replayed),
     Metric::Spool(SpoolMetric::Spooled),

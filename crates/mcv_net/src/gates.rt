@@ -1,6 +1,6 @@
 //! What a proxy on sockets talks to.
 
-ghost use Rattle.std.specs.Prelude.{◌≡◌, ◌<◌, ℕ, List, Some, IfSome, OnOk};
+ghost use Rattle.std.specs.Prelude.{◌≡◌, ◌<◌, ℕ, List, Some, IfSome, OnOk, is_some};
 ghost use Rattle.std.specs.Arc.{arc_value};
 ghost use Rattle.std.specs.Io.KnownBytes.{Appends};
 ghost use Rattle.std.specs.Str.{bytes_eq};
@@ -84,7 +84,8 @@ impl<'a, D: Disk, W: Write, R: Clock + Eprint + Wait + Copy + Drop> NetGates<'a,
             None => u64::MAX,
         };
         let seats = Seats::new(alloc, settings.max_clients)?;
-        let shortages = Arc::new(alloc, Shortages::new())?;
+        let shortages = Shortages::new(alloc, settings.hubs.count as usize)?;
+        let shortages = Arc::new(alloc, shortages)?;
         let Entrance {
             listener,
             service,
@@ -280,6 +281,12 @@ where
         SystemWatch::new(self.rt, watched, counters)
     }
 
+    fn is_watched(&self) -> bool
+        ensures { result ≡ is_some self.now.service.state }
+    {
+        self.service.is_asked()
+    }
+
     fn opened(&mut self, pending: usize) -> Result<(), ProxyFault>
         ensures { OnOk result ((address : List ℕ) × Appends (W.contents self.old.out.now) (W.contents self.new.out.now) (listening_line address pending)) }
     {
@@ -288,6 +295,12 @@ where
             Ok(()) => Ok(()),
             Err(NetFault::Memory) => Err(ProxyFault::Memory),
             Err(NetFault::Device) => Err(ProxyFault::Device),
+        }
+    }
+
+    fn ended(&mut self, left: usize) {
+        if self.service.is_ending() {
+            self.note(Notice::Drained(left as u64));
         }
     }
 }

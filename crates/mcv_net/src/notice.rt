@@ -39,8 +39,20 @@ pub enum Notice<'a> {
     Unlimited,
     /// No more clients are accepted, and all has to be done within so many seconds.
     Draining(u64),
-    /// All is done.
-    Drained,
+    /// The chapter of a hub that was full has ended, and calls begin in the next one.
+    Turned,
+    /// All is done, and so many legs are left that the spool refused. It is the last one.
+    Drained(u64),
+}
+
+impl<'a> Notice<'a> {
+    /// Whether none comes behind it.
+    fn is_last(self) -> bool {
+        match self {
+            Notice::Drained(_) => true,
+            _ => false,
+        }
+    }
 }
 
 impl<'a> fmt::Display for Notice<'a> {
@@ -62,7 +74,9 @@ impl<'a> fmt::Display for Notice<'a> {
             }
             Notice::More(held) => write!(f, "mcv: {held} lines more in a second"),
             Notice::Draining(seconds) => write!(f, "mcv: a drain began: {seconds} seconds"),
-            Notice::Drained => write!(f, "mcv: a drain ended"),
+            Notice::Turned => write!(f, "mcv: the chapter begins again"),
+            Notice::Drained(0) => write!(f, "mcv: a drain ended"),
+            Notice::Drained(left) => write!(f, "mcv: a drain ended: {left} legs left"),
             Notice::Unlimited => write!(
                 f,
                 "mcv: no --server-timeout: a server that never answers will stop all clients"
@@ -75,7 +89,7 @@ impl<'a> fmt::Display for Notice<'a> {
 pub trait Notices: Drop {
     fn note(&mut self, notice: Notice<'_>);
 
-    /// Shows what is left to be said of an earlier second. It is called about once a second.
+    /// Shows what is left to be said of an earlier second. It is called some times a second.
     fn catch_up(&mut self) {}
 }
 
@@ -121,10 +135,16 @@ impl<R: Eprint + Clock + Wait + Copy + Drop> StandardError<R> {
         Some(now.duration_since(self.since).as_secs())
     }
 
-    /// How many lines weren't said in earlier seconds, and whether one more is said now.
-    fn next_line(&self) -> (u64, bool) {
-        let Some(second) = self.second() else {
+    /// How many lines weren't said in earlier seconds, and whether this one is said now. The last one has a second of its own:
+    /// so it is said, behind how many weren't in this one.
+    fn next_line(&self, notice: Notice<'_>) -> (u64, bool) {
+        let Some(now) = self.second() else {
             return (0, true);
+        };
+        let second = if notice.is_last() {
+            now.saturating_add(1)
+        } else {
+            now
         };
         match &self.pace {
             Some(pace) => next_line(&self.rt, &**pace, second),
@@ -170,7 +190,7 @@ fn held_before<R: Wait>(rt: &R, pace: &Mutex<Pace>, second: u64) -> u64 {
 
 impl<R: Eprint + Clock + Wait + Copy + Drop> Notices for StandardError<R> {
     fn note(&mut self, notice: Notice<'_>) {
-        let (held, is_said) = self.next_line();
+        let (held, is_said) = self.next_line(notice);
         self.show_held(held);
         if is_said {
             self.show(notice);

@@ -72,14 +72,11 @@ where
     };
     let entrance = Entrance {
         listener: clients,
-        service: service.another(),
+        service,
         accepted: Arc::try_clone(&accepted)?,
     };
     let gates = NetGates::new(alloc, entrance, disk, settings, error.another(), &mut *out)?;
     let report = start(rt, alloc, accepted, gates)?;
-    if service.is_ending() {
-        error.note(Notice::Drained);
-    }
     let line = closed_line(alloc, report)?;
     print_line(out, line.as_slice())?;
     Ok(())

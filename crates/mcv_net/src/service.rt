@@ -1,6 +1,6 @@
 //! How a proxy serves, as an operator asks about it and ends it.
 
-ghost use Rattle.std.specs.Prelude.{◌≡◌, ◌+◌, ◌*◌, min, None, IfNone, IfOk};
+ghost use Rattle.std.specs.Prelude.{◌≡◌, ◌+◌, ◌*◌, min, None, IfNone, IfOk, is_some};
 ghost use Rattle.std.specs.Arc.{arc_value};
 ghost use Rattle.mcv_tally.specs.Tally.{listed, tallied};
 ghost use Rattle.mcv_net.specs.Service.{earlier, nearer};
@@ -163,7 +163,9 @@ impl Service {
     }
 
     /// Whether an operator may ask.
-    pub fn is_asked(&self) -> bool {
+    pub fn is_asked(&self) -> bool
+        ensures { result ≡ is_some self.now.state }
+    {
         self.state.is_some()
     }
 

@@ -47,6 +47,16 @@ impl<R: Clock + Drop, N: Notices> SystemWatch<R, N> {
         let since = now.duration_since(UNIX_EPOCH).ok()?;
         Some(since.as_secs())
     }
+
+    /// Notes that a request had a reply in this chapter of the hub of this number.
+    fn note_chapter(&mut self, hub: usize, chapter: u64) {
+        let Some(shortages) = &self.counters.shortages else {
+            return;
+        };
+        if shortages.enter(hub, chapter) {
+            self.notices.note(Notice::Turned);
+        }
+    }
 }
 
 impl<R: Clock + Drop, N: Notices> Watch for SystemWatch<R, N> {
@@ -58,7 +68,7 @@ impl<R: Clock + Drop, N: Notices> Watch for SystemWatch<R, N> {
     }
 
     fn pause(&mut self) {
-        thread::sleep(&self.rt, Duration::from_secs(1));
+        thread::sleep(&self.rt, Duration::from_millis(100));
         self.notices.catch_up();
     }
 
@@ -74,16 +84,17 @@ impl<R: Clock + Drop, N: Notices> Watch for SystemWatch<R, N> {
         self.notices.note(Notice::Unserved);
     }
 
-    fn note_full(&mut self, shortage: Shortage) {
+    fn note_full(&mut self, hub: usize, shortage: Shortage) {
         let Some(shortages) = &self.counters.shortages else {
             return;
         };
-        if let Some(refused) = shortages.more(shortage) {
+        if let Some(refused) = shortages.more(hub, shortage) {
             self.notices.note(Notice::Full(shortage, refused));
         }
     }
 
     fn note_load(&mut self, hub: usize, chapter: u64, load: Load) {
+        self.note_chapter(hub, chapter);
         let Some(tally) = &self.counters.tally else {
             return;
         };
@@ -91,6 +102,15 @@ impl<R: Clock + Drop, N: Notices> Watch for SystemWatch<R, N> {
             hub.entries.set(load.entries);
             hub.bytes.set(load.bytes);
             hub.turned.raise(chapter);
+        }
+    }
+
+    fn note_waiting(&mut self, hub: usize, counts: &[usize]) {
+        let Some(tally) = &self.counters.tally else {
+            return;
+        };
+        if let Some(hub) = tally.hub(hub) {
+            hub.note_waiting(counts);
         }
     }
 

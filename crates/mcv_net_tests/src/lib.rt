@@ -2,6 +2,8 @@
 #![tactic(auto)]
 
 #[cfg(test)]
+mod chapters;
+#[cfg(test)]
 mod links;
 #[cfg(test)]
 mod memory;

@@ -15,6 +15,7 @@ use mcv_tally::Tally;
 use mcv_verdict::{Judgement, judge_input};
 use std::alloc::Global;
 use std::marker::Brand;
+use std::num::NonZeroUsize;
 use std::process::Abort;
 use std::sync::ledger::{Blank, Ledger};
 use std::sync::{Arc, Mutex, Wait};
@@ -43,7 +44,11 @@ fn pass_of<B: HubLedger, T: Ledger>(
     requires number { 0 ≡ B.number }
     requires opened { B.opened ≡ opened_view (arc_value accepted) [] }
 {
-    let capacity = Capacity { bells: 1, seats: 1 };
+    let capacity = Capacity {
+        flights: NonZeroUsize::MIN,
+        bells: 1,
+        seats: 1,
+    };
     let made = Hub::<B, T>::new(alloc, accepted, 0, &[], capacity, begun, taken);
     let (_hub, passes) = made.expect(rt, "memory");
     passes.pass()
@@ -413,6 +418,14 @@ fn notices_are_lines(rt: HostRuntime) {
         alloc,
         Notice::Full(Shortage::Chapter, 1),
         "mcv: the chapter is full: 1 refused",
+    );
+    check_notice(&rt, alloc, Notice::Turned, "mcv: the chapter begins again");
+    check_notice(&rt, alloc, Notice::Drained(0), "mcv: a drain ended");
+    check_notice(
+        &rt,
+        alloc,
+        Notice::Drained(2),
+        "mcv: a drain ended: 2 legs left",
     );
     check_notice(&rt, alloc, Notice::More(3), "mcv: 3 lines more in a second");
     check_notice(

@@ -68,6 +68,9 @@ impl<'a, B: HubLedger, T: Ledger> Agenda<'a, B, T> {
 
     /// Begins the next chapter where it is due, and no call runs and no leg is queued.
     pub(crate) fn turn_where_due(&mut self, guard: &mut Guard<'_, B, T>) {
+        if !guard.is_due() {
+            return;
+        }
         if let Gate::Turned(past) = guard.gate(self.alloc) {
             self.note_turned(past);
         }

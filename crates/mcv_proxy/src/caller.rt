@@ -72,6 +72,9 @@ fn enter<'a, B: HubLedger, T: Ledger, R: Wait + Clock>(
     guard: Guard<'a, B, T>,
     agenda: &mut Agenda<'_, B, T>,
 ) -> Guard<'a, B, T> {
+    if !guard.is_due() {
+        return guard;
+    }
     let (guard, gate) = hub.enter(rt, alloc, guard, Duration::from_millis(PATIENCE));
     if let Gate::Turned(past) = gate {
         agenda.note_turned(past);

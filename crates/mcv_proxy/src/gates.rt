@@ -87,7 +87,7 @@ pub trait Watch: Drop {
     /// Seconds since 1970.
     fn moment(&mut self) -> Moment;
 
-    /// Waits for a second.
+    /// Waits for a tenth of a second.
     fn pause(&mut self);
 
     /// For how long a spool that has refused a record isn't asked again.
@@ -113,11 +113,15 @@ pub trait Watch: Drop {
     /// Notes that a client isn't served, since there was no thread or no memory for its session.
     fn note_unserved(&mut self) {}
 
-    /// Notes that a request was refused, since there was no place for its calls.
-    fn note_full(&mut self, _shortage: Shortage) {}
+    /// Notes that a request was refused, since the hub of this number had no place for a call of it.
+    fn note_full(&mut self, _hub: usize, _shortage: Shortage) {}
 
-    /// Notes that the hub of this number is in the chapter of that number, and how full that is.
+    /// Notes that the hub of this number has been in the chapter of that number, and how full its chapter was at the last
+    /// request.
     fn note_load(&mut self, _hub: usize, _chapter: u64, _load: Load) {}
+
+    /// Notes how many legs wait for each server at the hub of this number, in the order of the servers' numbers.
+    fn note_waiting(&mut self, _hub: usize, _counts: &[usize]) {}
 }
 
 // A moment that was told.
@@ -161,9 +165,17 @@ pub trait Gates: Drop {
     /// A watch for one thread.
     fn watch(&mut self) -> Self::Watch;
 
+    /// Whether somebody looks at how many legs wait. Where nobody does they aren't counted.
+    fn is_watched(&self) -> bool {
+        false
+    }
+
     /// The spool is open with so many records that are pending, and all workers run: clients may come. An error ends the
     /// proxy.
     fn opened(&mut self, _pending: usize) -> Result<(), ProxyFault> {
         Ok(())
     }
+
+    /// All sessions and workers have ended, and so many legs are still queued.
+    fn ended(&mut self, _left: usize) {}
 }

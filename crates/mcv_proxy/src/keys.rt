@@ -5,18 +5,18 @@ ghost use Rattle.mcv_text.specs.Request.{request_value};
 ghost use Rattle.mcv_session.specs.Desk.{keys_of};
 ghost use Rattle.mcv_proxy.specs.Desk.{AreFor, IsFor, IsRouted, IsUnrouted, word_at};
 
-use mcv_base::{Op, Request, Rest, key_words_have_one_reading, split_key};
+use mcv_base::{Op, Prefix, Request, cut_key, key_words_have_one_reading};
 use mcv_core::CoreFault;
 use mcv_hub::TakenReply;
 use mcv_route::Routes;
 
 /// A key word that a route takes.
-#[derive(Drop)]
-struct RoutedKey {
+#[derive(Clone, Copy)]
+struct RoutedKey<'a> {
     /// The number of its route.
     route: usize,
-    /// The word without its routing prefix.
-    rest: Rest,
+    /// The bytes of the word without its routing prefix.
+    rest: &'a [u8],
 }
 
 /// How many keys a request has.
@@ -42,24 +42,24 @@ fn key_of(request: &Request, key: usize) -> Option<(Op, &[u8])>
 
 /// The route of a key word, and its rest. An error is BadKey, where it is no key, or UnknownPrefix, where no route has its
 /// prefix.
-fn routed_key(routes: &Routes, word: &[u8]) -> Result<RoutedKey, CoreFault>
-    ensures routed { IfOk result (λ key. IsRouted routes.now word.now key.route key.rest) }
+fn routed_key<'a>(routes: &Routes, word: &'a [u8]) -> Result<RoutedKey<'a>, CoreFault>
+    ensures routed { IfOk result (λ key. IsRouted routes.now word.now key.route key.rest.now) }
     ensures err { IfErr result (IsUnrouted routes.now word.now) }
 {
-    let Ok((prefix, rest)) = split_key(word) else {
+    let Ok((prefix, rest)) = cut_key(word) else {
         return Err(CoreFault::BadKey);
     };
-    match routes.route_of(&prefix) {
+    match routes.route_of(&Prefix::of(prefix)) {
         Some(route) => Ok(RoutedKey { route, rest }),
         None => Err(CoreFault::UnknownPrefix),
     }
 }
 
 /// Whether the call of a reply asked this operation of this route and rest.
-fn has_asked(taken: &TakenReply, op: Op, routed: &RoutedKey) -> bool
-    ensures { (result ≡ true) ↔ ((taken.now.asked.op ≡ op) × (taken.now.asked.route ≡ routed.now.route) × (taken.now.asked.rest ≡ routed.now.rest)) }
+fn has_asked(taken: &TakenReply, op: Op, routed: RoutedKey<'_>) -> bool
+    ensures { (result ≡ true) ↔ ((taken.now.asked.op ≡ op) × (taken.now.asked.route ≡ routed.entry.route) × (taken.now.asked.rest ≡ routed.entry.rest.now)) }
 {
-    taken.op() == op && taken.route() == routed.route && *taken.rest() == routed.rest
+    taken.op() == op && taken.route() == routed.route && taken.rest().as_bytes() == routed.rest
 }
 
 /// Whether a reply is for this key: its call asked the operation of the request, of the key's route and rest.
@@ -71,7 +71,7 @@ pub(crate) fn is_for(routes: &Routes, request: &Request, key: usize, taken: &Tak
         return false;
     };
     match routed_key(routes, word) {
-        Ok(routed) => has_asked(taken, op, &routed),
+        Ok(routed) => has_asked(taken, op, routed),
         Err(_) => false,
     }
 }

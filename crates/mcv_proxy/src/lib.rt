@@ -1,5 +1,5 @@
-//! What the threads of one hub do, over whatever it talks to: sessions of clients, a worker for each server, one for the spool
-//! and a replayer.
+//! What the threads of one hub do, over whatever it talks to: sessions of clients, a worker for each server, one for the spool,
+//! a replayer, and one that counts legs for who watches.
 //!
 //! A session begins a call for each key of a request, and waits at the bell of the call for its reply. The worker of a
 //! server sends the legs that wait for it, one at a time. The spool's worker writes down the deletes that their servers
@@ -9,6 +9,7 @@
 
 mod agenda;
 mod caller;
+mod census;
 mod departure;
 mod desk;
 mod destination;
@@ -27,6 +28,7 @@ mod seen;
 mod shortage;
 mod spooling;
 
+pub use crate::census::{Census, serve_census};
 pub use crate::desk::{HubDesk, Outlook, fault_for, into_parts};
 pub use crate::destination::serve_destination;
 pub use crate::ends::Ends;

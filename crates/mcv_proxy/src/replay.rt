@@ -224,6 +224,6 @@ pub fn serve_replay<B: HubLedger, T: Ledger, L: Link, D: Disk, W: Watch, R: Wait
         if !go_round(rt, alloc, lanes, &mut agenda, pass, spool, links, ends) {
             return;
         }
-        watch.pause();
+        ends.rest(watch);
     }
 }

@@ -8,6 +8,7 @@ pub mod GroupsAreHeaps
 pub mod EnteredNumbers
 pub mod SeenRows
 pub mod LegsInFlight
+pub mod WaitingLegs
 pub mod QueuesStaySound
 pub mod UnseenChanges
 mod Examples

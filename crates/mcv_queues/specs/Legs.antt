@@ -14,6 +14,20 @@ is_flight Refused = false
 is_flight InSpool = false
 is_flight InReplay = true
 
+-- a leg in this state waits to be sent
+abbrev pub is_waiting : State → Bool
+is_waiting Waiting = true
+is_waiting Sent = false
+is_waiting Held = false
+is_waiting Refused = false
+is_waiting InSpool = false
+is_waiting InReplay = false
+
+-- the leg waits for this server
+abbrev pub waits_for : {T : Type 0} → ℕ → Option (Leg T) → Bool
+waits_for s None = false
+waits_for s (Some l) = nat_eq l.server.0 s && is_waiting l.state
+
 -- the leg is in flight
 abbrev pub is_in_flight : {T : Type 0} → Option (Leg T) → Bool
 is_in_flight None = false

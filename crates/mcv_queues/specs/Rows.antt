@@ -1,6 +1,7 @@
 -- Legs by number.
-use Rattle.std.specs.Prelude.{ℕ, Option, nat_eq, option_map}
+use Rattle.std.specs.Prelude.{ℕ, Bool, Option, Some, nat_eq, option_map}
 use Rattle.std.specs.HashMap as hash
+use Rattle.mcv_queues.specs.Legs.{waits_for}
 use Rattle.mcv_queues.specs.declared.leg.Leg.{Leg}
 use Rattle.mcv_queues.specs.declared.rows.Link.{Link}
 use Rattle.mcv_queues.specs.declared.rows.Row.{Row}
@@ -31,3 +32,7 @@ legs t n = option_map leg_of (at t n)
 
 abbrev pub links : {T : Type 0} → Rows T → ℕ → Option Link
 links t n = option_map link_of (at t n)
+
+-- the leg of the row waits for this server
+abbrev pub row_waits_for : {T : Type 0} → ℕ → Row T → Bool
+row_waits_for s r = waits_for s (Some r.leg)

@@ -1,7 +1,7 @@
 //! Legs, and the states that they go through.
 
 ghost use Rattle.std.specs.Prelude.{◌≡◌};
-ghost use Rattle.mcv_queues.specs.Legs.{is_flight};
+ghost use Rattle.mcv_queues.specs.Legs.{is_flight, is_waiting};
 
 use mcv_base::ServerId;
 
@@ -31,6 +31,13 @@ impl State {
             State::Sent | State::InReplay => true,
             State::Waiting | State::Held | State::Refused | State::InSpool => false,
         }
+    }
+
+    /// Whether a leg in this state waits to be sent.
+    pub(crate) fn is_waiting(self) -> bool
+        ensures { result ≡ is_waiting self }
+    {
+        self == State::Waiting
     }
 }
 

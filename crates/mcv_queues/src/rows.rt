@@ -1,11 +1,12 @@
 //! Legs by number, and the links by which they form heaps.
 
-ghost use Rattle.std.specs.Prelude.{◌≡◌, ◌<◌, ◌≤◌, ◌+◌, ℕ, None, Some, OnOk, IfSome, option_map, option_copied};
+ghost use Rattle.std.specs.Prelude.{◌≡◌, ◌<◌, ◌≤◌, ◌+◌, ◌^◌, ℕ, None, Some, OnOk, IfOk, IfSome, cond, length, option_map, option_copied, slice_get, vec_len};
+ghost use Rattle.mcv_queues.specs.Flights.{AreWaiting};
 ghost use Rattle.mcv_queues.specs.Forest.{cut, freed, raised, right_of, turned, unless};
 ghost use Rattle.mcv_queues.specs.Heap.{parted, next_or};
 ghost use Rattle.mcv_queues.specs.Numbers.{put};
 ghost use Rattle.mcv_queues.specs.Legs.{is_in_flight, with_state, with_record, with_content};
-ghost use Rattle.mcv_queues.specs.Rows.{at, links, legs, room, content_of, seen_of};
+ghost use Rattle.mcv_queues.specs.Rows.{at, links, legs, room, content_of, row_waits_for, seen_of};
 
 use crate::heap::{Step, parted};
 use crate::leg::{Leg, State};
@@ -44,6 +45,20 @@ pub(crate) struct Seen {
 pub(crate) struct Row<T> {
     pub leg: Leg<T>,
     pub link: Link,
+}
+
+impl<T: Drop> Row<T> {
+    /// Counts its leg at its server's number, where it waits.
+    fn count_in(&self, counts: &mut [usize])
+        requires { (s : ℕ) → IfSome (slice_get counts.old s) (λ count. count + 1 < 2 ^ 64) }
+        ensures len { length counts.new ≡ length counts.old }
+        ensures counts { (s : ℕ) → slice_get counts.new s ≡ option_map (λ count. cond (row_waits_for s self.now) (count + 1) count) (slice_get counts.old s) }
+    {
+        let server = self.leg.server.0 as usize;
+        if self.leg.state.is_waiting() && server < counts.len() {
+            counts[server] += 1;
+        }
+    }
 }
 
 /// Legs by number.
@@ -166,6 +181,18 @@ impl<T: Drop> Rows<T> {
         ensures { option_copied result ≡ legs self.now number }
     {
         self.rows.get(&number).map(|row| &row.leg)
+    }
+
+    /// How many legs wait for each of so many servers, in the order of the servers' numbers.
+    pub fn waiting(&self, alloc: Global, servers: usize) -> Result<Vec<usize>, AllocError>
+        ensures len { IfOk result (λ counts. vec_len counts ≡ servers) }
+        ensures counted { IfOk result (λ counts. (s : ℕ) → IfSome (slice_get counts.items s) (λ count. ∥ AreWaiting (legs self.now) s count ∥₁)) }
+    {
+        let mut counts = vec![in alloc; 0; servers]?;
+        for row in self.rows.values() {
+            row.count_in(counts.as_mut_slice());
+        }
+        Ok(counts)
     }
 
     /// Whether the leg at a number is in flight.

@@ -3,10 +3,10 @@
 //! Each call looks up a few rows of the map; one that changes a leg's state besides takes O(log n) of them, n being the
 //! legs of its group, counted over all calls.
 
-ghost use Rattle.std.specs.Prelude.{◌≡◌, ◌<◌, ◌≤◌, ◌+◌, ◌-◌, ◌^◌, ℕ, true, false, None, Some, OnOk, OnErr, IfOk, IfErr, IfSome, option_map, option_copied, nat_eq, cond};
+ghost use Rattle.std.specs.Prelude.{◌≡◌, ◌<◌, ◌≤◌, ◌+◌, ◌-◌, ◌^◌, ℕ, true, false, None, Some, OnOk, OnErr, IfOk, IfErr, IfSome, option_map, option_copied, nat_eq, cond, slice_get, vec_len};
 ghost use Rattle.mcv_queues.specs.Numbers.{put, IsLeast, leg_number};
 ghost use Rattle.mcv_queues.specs.Legs.{IsSentTo, is_in_flight, is_in_flight_to, is_flight, rests_at, with_state, with_stored, with_content, leg_content};
-ghost use Rattle.mcv_queues.specs.Flights.{AreFlying};
+ghost use Rattle.mcv_queues.specs.Flights.{AreFlying, AreWaiting};
 ghost use Rattle.mcv_queues.specs.Groups.{IsFirstHeld, is_in};
 ghost use Rattle.mcv_queues.specs.declared.roots.Group.TheVariants.{WaitingFor, SpooledFor, HeldLegs, RefusedLegs, LegsInReplay};
 ghost use Rattle.mcv_queues.specs.Queues.{legs, room, in_flight, servers};
@@ -285,6 +285,15 @@ impl<T: Drop> Queues<T> {
         ensures counted { ∥ AreFlying (legs self.now) server.0 result ∥₁ }
     {
         self.roots.server(server.0 as usize).flying
+    }
+
+    /// How many legs wait for each server, in the order of the servers' numbers: one pass over the legs of all. An error is
+    /// that memory ran out.
+    pub fn waiting(&self, alloc: Global) -> Result<Vec<usize>, AllocError>
+        ensures servers { IfOk result (λ counts. vec_len counts ≡ servers self.now) }
+        ensures counted { IfOk result (λ counts. (s : ℕ) → IfSome (slice_get counts.items s) (λ count. ∥ AreWaiting (legs self.now) s count ∥₁)) }
+    {
+        self.rows.waiting(alloc, self.servers())
     }
 
     /// Of the legs of all servers that are in replay the one with the least number.

@@ -1,13 +1,15 @@
 -- The texts of servers and the numbers of hubs, one after another.
 use Rattle.std.proofs.Common.{◌≡◌, ◌∙◌, ℕ, ◌+◌, ◌<◌, None, Some, List, [], ◌∷◌, ◌++◌, length, get_or, map, take, ap, sym, arith}
 use Rattle.std.proofs.lemmas.List.{map-append, map-id, take_more}
+use Rattle.std.proofs.lemmas.List.Elements.{All-push}
 use Rattle.std.proofs.lemmas.List.FromFn.{map-range_with_len_more}
 use Rattle.std.specs.List.{range_with_len}
 use Rattle.mcv_metrics.specs.declared.snapshot.HubCounts.{HubCounts}
 use Rattle.std.proofs.lemmas.Option.{get_or_from_slice_get, slice_get-get_or, slice_get_within}
-use Rattle.std.specs.Prelude.{slice_get, string_bytes}
+use Rattle.std.specs.Prelude.{slice_get, string_bytes, vec_len}
 use Rattle.mcv_metrics.specs.declared.snapshot.ServerCounts.{ServerCounts}
-use Rattle.mcv_tally.specs.Tally.{listed, tallied}
+use Rattle.mcv_tally.specs.Tally.{HaveLevels, listed, tallied}
+use Rattle.mcv_tally.specs.declared.tally.HubTally.{HubTally}
 use Rattle.mcv_tally.specs.declared.tally.ServerTally.{ServerTally}
 
 -- there is one at each place
@@ -36,3 +38,7 @@ range_more n =
 -- something is said of one hub more
 pub numbered_more : (counts : List HubCounts) (c : HubCounts) (n : ℕ) → c.hub ≡ n → map (λ (c : HubCounts). c.hub) counts ≡ range_with_len 0 n → map (λ (c : HubCounts). c.hub) (counts ++ c ∷ []) ≡ range_with_len 0 (n + 1)
 numbered_more counts c n is before = map-append (λ (c : HubCounts). c.hub) counts (c ∷ []) ∙ ((λ j. before j ++ is j ∷ []) ∙ sym (range_more n))
+
+-- one hub more has its numbers
+pub levels_more : (servers : ℕ) (hubs : List HubTally) (h : HubTally) → vec_len h.waiting ≡ servers → HaveLevels servers hubs → HaveLevels servers (hubs ++ h ∷ [])
+levels_more servers hubs h is all = All-push (λ (h : HubTally). vec_len h.waiting ≡ servers) hubs h all is

@@ -3,7 +3,7 @@
 ghost use Rattle.std.specs.Prelude.{◌≡◌, ◌<◌, IfOk, Some, length, map, slice_get, string_bytes, vec_len};
 ghost use Rattle.std.specs.List.{range_with_len};
 ghost use Rattle.std.specs.Option.{option_map};
-ghost use Rattle.mcv_tally.specs.Tally.{listed, tallied};
+ghost use Rattle.mcv_tally.specs.Tally.{HaveLevels, listed, tallied};
 ghost use Rattle.mcv_tally.specs.Words.{causes, counted_words, operations, outcomes, tallied_words};
 
 use crate::count::{Count, Level};
@@ -46,6 +46,8 @@ pub struct SpoolTally {
 /// What is known of a hub.
 #[derive(Drop)]
 pub struct HubTally {
+    /// The legs that waited for each server when they were last counted, in the order of the servers' numbers.
+    pub waiting: Vec<Level>,
     /// The entries that its chapter has or may get.
     pub entries: Level,
     /// The bytes that it holds.
@@ -101,9 +103,10 @@ impl ServerTally {
         }
     }
 
-    /// What was counted of it up to now.
-    fn counts(&self, alloc: Global) -> Result<ServerCounts, AllocError>
-        ensures { IfOk result (λ counts. string_bytes counts.server ≡ string_bytes self.now.server) }
+    /// What was counted of it up to now, where so many legs wait for it.
+    fn counts(&self, alloc: Global, waiting: u64) -> Result<ServerCounts, AllocError>
+        ensures server { IfOk result (λ counts. string_bytes counts.server ≡ string_bytes self.now.server) }
+        ensures waiting { IfOk result (λ counts. counts.waiting ≡ waiting) }
     {
         let server = String::from_str(alloc, self.server.as_str())?;
         // Those that are lost first: each of them was begun.
@@ -112,6 +115,7 @@ impl ServerTally {
             server,
             sent: self.sent.now(),
             lost,
+            waiting,
             marked: left(&self.marked, &self.unmarked),
             replayed: self.replayed.now(),
         })
@@ -128,12 +132,44 @@ impl SpoolTally {
     }
 }
 
+/// So many levels, at 0.
+fn levels_of(alloc: Global, count: usize) -> Result<Vec<Level>, AllocError>
+    ensures { IfOk result (λ levels. vec_len levels ≡ count) }
+{
+    let mut levels = Vec::new(alloc);
+    for _server in 0..count {
+        levels.push(Level::new())?;
+    }
+    Ok(levels)
+}
+
 impl HubTally {
-    fn new() -> HubTally {
-        HubTally {
+    /// Nothing yet, where there are so many servers.
+    fn new(alloc: Global, servers: usize) -> Result<HubTally, AllocError>
+        ensures { IfOk result (λ hub. vec_len hub.waiting ≡ servers) }
+    {
+        Ok(HubTally {
+            waiting: levels_of(alloc, servers)?,
             entries: Level::new(),
             bytes: Level::new(),
             turned: Level::new(),
+        })
+    }
+
+    /// So many legs wait for each server, in the order of the servers' numbers.
+    pub fn note_waiting(&self, counts: &[usize]) {
+        for (server, count) in counts.iter().enumerate() {
+            if let Some(level) = self.waiting.get(server) {
+                level.set(*count as u64);
+            }
+        }
+    }
+
+    /// How many legs waited for the server of this number when they were last counted; 0 where there is no such server.
+    fn waiting_for(&self, server: usize) -> u64 {
+        match self.waiting.get(server) {
+            Some(level) => level.now(),
+            None => 0,
         }
     }
 
@@ -195,15 +231,26 @@ fn tallies_of(alloc: Global, servers: &Servers) -> Result<Vec<ServerTally>, Allo
     Ok(tallies)
 }
 
-/// Nothing yet, of so many hubs.
-fn hubs_of(alloc: Global, count: usize) -> Result<Vec<HubTally>, AllocError>
-    ensures { IfOk result (λ hubs. vec_len hubs ≡ count) }
+/// Nothing yet, of so many hubs with so many servers.
+#[tactic(auto, using(crate::proofs::Texts::levels_more))]
+fn hubs_of(alloc: Global, count: usize, servers: usize) -> Result<Vec<HubTally>, AllocError>
+    ensures count { IfOk result (λ hubs. vec_len hubs ≡ count) }
+    ensures levels { IfOk result (λ hubs. HaveLevels servers hubs.items) }
 {
     let mut hubs = Vec::new(alloc);
     for _number in 0..count {
-        hubs.push(HubTally::new())?;
+        hubs.push(HubTally::new(alloc, servers)?)?;
     }
     Ok(hubs)
+}
+
+/// How many legs waited for the server of this number at all hubs, when they were last counted.
+fn waiting_at(hubs: &[HubTally], server: usize) -> u64 {
+    let mut legs = 0u64;
+    for hub in hubs {
+        legs = legs.saturating_add(hub.waiting_for(server));
+    }
+    legs
 }
 
 impl Tally {
@@ -214,6 +261,7 @@ impl Tally {
         ensures refusals { IfOk result (λ tally. tallied_words tally.refusals.items ≡ causes) }
         ensures servers { IfOk result (λ tally. tallied tally.servers.items ≡ servers.now) }
         ensures hubs { IfOk result (λ tally. vec_len tally.hubs ≡ hubs) }
+        ensures levels { IfOk result (λ tally. HaveLevels (length servers.now) tally.hubs.items) }
     {
         Ok(Tally {
             calls: words::tallies_of(alloc, &OPERATIONS)?,
@@ -221,7 +269,7 @@ impl Tally {
             refusals: words::tallies_of(alloc, &CAUSES)?,
             servers: tallies_of(alloc, servers)?,
             spool: SpoolTally::new(),
-            hubs: hubs_of(alloc, hubs)?,
+            hubs: hubs_of(alloc, hubs, servers.len())?,
             clients: ClientTally::new(),
         })
     }
@@ -266,8 +314,9 @@ impl Tally {
         ensures { IfOk result (λ counts. listed counts.items ≡ tallied self.now.servers.items) }
     {
         let mut counts = Vec::new(alloc);
-        for server in &self.servers {
-            counts.push(server.counts(alloc)?)?;
+        for (number, server) in self.servers.iter().enumerate() {
+            let waiting = waiting_at(self.hubs.as_slice(), number);
+            counts.push(server.counts(alloc, waiting)?)?;
         }
         Ok(counts)
     }

@@ -1,22 +1,19 @@
 -- What clap's matches and errors say of the words.
-use Rattle.std.proofs.Common.{◌≡◌, ◌∙◌, ◌⊎◌, ◌<◌, ◌≤◌, ◌^◌, inl, inr, ℕ, List, [], Option, Some, None, false, codes, refl, ap, ap₂, subst, sym}
-use Rattle.std.specs.Prelude.{Box, Result, Ok, Err, IsSome, option_map}
+use Rattle.std.proofs.Common.{◌≡◌, ◌∙◌, ◌⊎◌, ◌<◌, ◌≤◌, ◌^◌, inl, inr, ℕ, List, [], Option, Some, None, codes, refl, ap, ap₂, subst, sym}
+use Rattle.std.specs.Prelude.{Box, Result, Ok, Err, option_map}
 use Rattle.std.specs.Str.Parse.{IsNumeral, ParsesUnsigned, digits_value, without_leading_plus}
 use Rattle.std.specs.Box.{box_value}
 use Rattle.clap.specs.Words.{IsAmong, ReadsOne, Row, Text, TriesOne, one_of, subcommand_rows_of, subcommand_name_of}
-use Rattle.clap.proofs.ValueTestLemmas.{accepts-Accepts}
-use Rattle.clap.specs.declared.builder.value_parser.ValueParser.TheVariants as parsers
 use Rattle.clap.specs.declared.error.kind.ErrorKind.{ErrorKind}
 use Rattle.clap.specs.declared.error.kind.ErrorKind.TheVariants.{OutOfMemory}
 use Rattle.clap.specs.declared.parser.matches.ArgMatches.{ArgMatches}
 use Rattle.clap.specs.declared.parser.matches.ArgMatches.TheViews.{out-ArgMatches, out-SubCommand}
 use Rattle.clap.specs.declared.parser.matches.SubCommand.{SubCommand}
 use Rattle.clap.specs.Simple.{subcommand_rows}
-use Rattle.mcv_words.specs.Ranges.{session_limit, timeout_limit, window_limit, client_limit, hub_limit}
-use Rattle.mcv_words.specs.Words.{faults, named, CanRun, IsCheckOf, IsDrawOf, IsFaultOfKind, IsGivenIn, IsJobOf, IsLineFault, IsNumberOf, IsRunOf, IsSpoolOf, MayBeGivenIn, IsMendOf}
+use Rattle.mcv_words.specs.Table.{NumberOption}
+use Rattle.mcv_words.specs.Words.{faults, named, IsCheckOf, IsDrawOf, IsFaultOfKind, IsJobOf, IsLineFault, IsNumberOf, IsRunOf, IsSpoolOf, MayBeGivenIn, IsMendOf}
 use Rattle.mcv_words.specs.declared.words.Job.{Job}
 use Rattle.mcv_words.specs.declared.words.Job.TheVariants.{Legs, Check, Draw, Mend, Run, Spool}
-use Rattle.mcv_words.proofs.OptionValues.{HasAll, HasNumber, MayHaveNumber}
 use Rattle.mcv_words.specs.declared.words.LineFault.{LineFault}
 use Rattle.mcv_words.specs.declared.words.LineFault.TheVariants.{BadLine, Memory, Help, Version}
 
@@ -88,42 +85,20 @@ one_number option rows m n one other =
     one.3 ∙ (ap (λ (t : Text). digits_value 10 (without_leading_plus t)) same ∙ sym other.3)
 
 -- a number that was read is in the range in which the option is given one
-pub read_in_range : (option : Text) (least most : ℕ) (rows : List Row) (n : ℕ) → IsNumberOf option rows n → MayBeGivenIn option least most rows → (least ≤ n) × (n ≤ most)
-read_in_range option least most rows n number (inl none) = absurd (let never : None ≡ Some number.0 = sym none ∙ number.1 in cc)
-read_in_range option least most rows n number (inr given) =
-    let same = one_number option rows n given.0 number given.1 in
+pub read_in_range : (o : NumberOption) (rows : List Row) (n : ℕ) → IsNumberOf o.name rows n → MayBeGivenIn o rows → (o.least ≤ n) × (n ≤ o.most)
+read_in_range o rows n number (inl none) = absurd (let never : None ≡ Some number.0 = sym none ∙ number.1 in cc)
+read_in_range o rows n number (inr given) =
+    let same = one_number o.name rows n given.0 number given.1 in
     (rw same given.2, rw same given.3)
 
 -- where it is given one, or none, something is read
-pub not_unread : {E : Type 0} (G : List ℕ → Result ℕ E → Type 0) (option : Text) (least most : ℕ) (rows : List Row) (e : E) → ReadsNumbers G
-    → (one_of option rows ≡ None → ◌≡◌ {A = Result (Option ℕ) E} (Err e) (Ok None)) → ((t : List ℕ) → one_of option rows ≡ Some t → TriesOne G t (Err e))
-    → MayBeGivenIn option least most rows → ⊥
-not_unread {E} G option least most rows e only none read (inl left_out) = let never : ◌≡◌ {A = Result (Option ℕ) E} (Err e) (Ok None) = none left_out in cc
-not_unread G option least most rows e only none read (inr given) =
+pub not_unread : {E : Type 0} (G : List ℕ → Result ℕ E → Type 0) (o : NumberOption) (rows : List Row) (e : E) → ReadsNumbers G
+    → (one_of o.name rows ≡ None → ◌≡◌ {A = Result (Option ℕ) E} (Err e) (Ok None)) → ((t : List ℕ) → one_of o.name rows ≡ Some t → TriesOne G t (Err e)) → MayBeGivenIn o rows
+    → ⊥
+not_unread {E} G o rows e only none read (inl left_out) = let never : ◌≡◌ {A = Result (Option ℕ) E} (Err e) (Ok None) = none left_out in cc
+not_unread G o rows e only none read (inr given) =
     let number = given.1 in
     only number.0 (Err e) (read number.0 number.1) (number.2, subst (λ (n : ℕ). n < 2 ^ 64) number.3 given.4)
-
--- the value of an option is a number of the range of its parser
-pub given_in : (option : Text) (least most : ℕ) (rows : List Row) → HasNumber option least most rows → IsGivenIn option least most rows
-given_in option least most rows has =
-    let takes = accepts-Accepts false (parsers.Unsigned least most) has.0 has.2 in
-    (digits_value 10 (without_leading_plus has.0), (has.0, has.1, takes.0, refl), takes.2, takes.3, takes.1)
-
-may_be_given_in : (option : Text) (least most : ℕ) (rows : List Row) → MayHaveNumber option least most rows → MayBeGivenIn option least most rows
-may_be_given_in option least most rows (inl none) = inl none
-may_be_given_in option least most rows (inr has) = inr (given_in option least most rows has)
-
-pub can_run : (rows : List Row) → HasAll rows → CanRun rows
-can_run rows has = record {
-  listen = subst (λ (o : Option Text). IsSome o) (sym has.listen.1) refl;
-  spool = subst (λ (o : Option Text). IsSome o) (sym has.spool.1) refl;
-  sessions = may_be_given_in (codes "sessions") 1 session_limit rows has.sessions;
-  hubs = given_in (codes "hubs") 1 hub_limit rows has.hubs;
-  window = given_in (codes "window") 0 window_limit rows has.window;
-  server_timeout = may_be_given_in (codes "server-timeout") 1 timeout_limit rows has.server_timeout;
-  client_timeout = may_be_given_in (codes "client-timeout") 1 timeout_limit rows has.client_timeout;
-  max_clients = may_be_given_in (codes "max-clients") 1 client_limit rows has.max_clients;
-}
 
 -- the job of `check` that has the values of the words is what they ask for
 pub check_asked : (words : List Text) (rows : List Row) (job : Job) → faults words ≡ [] → named words ≡ Some (codes "check", rows) → IsCheckOf rows job → IsJobOf words job

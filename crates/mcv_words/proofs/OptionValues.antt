@@ -4,7 +4,8 @@
 use Rattle.std.proofs.Common.{◌≡◌, ◌∙◌, ◌⊎◌, inl, inr, ℕ, zero, suc, Bool, cond, not, ◌&&◌, ◌||◌, ◌==◌, arith, true, false, List, [], ◌∷◌, ◌++◌, drop, length, Option, Some, None, ap, codes, fold, is_some, refl, subst, sym, true≢false}
 use Rattle.std.specs.Option.{option_map_or}
 use Rattle.std.specs.Str.{bytes_eq, chars}
-use Rattle.std.specs.Prelude.{IfSome, ⊤, slice_get, encode_utf8, find}
+use Rattle.std.specs.Str.Parse.{digits_value, without_leading_plus}
+use Rattle.std.specs.Prelude.{IfSome, IsSome, ⊤, slice_get, encode_utf8, find}
 use Rattle.std.proofs.lemmas.Bool.{ne_eqb}
 use Rattle.std.proofs.lemmas.Slice.Eq.{bytes_eq-Decides}
 use Rattle.clap.specs.Words.{Kinds, Row, Rule, Shape, Text, built, first_of, one_of}
@@ -15,16 +16,17 @@ use Rattle.clap.specs.Takes.{is_given}
 use Rattle.clap.specs.ValueTests.{accepts}
 use Rattle.clap.specs.Simple.{built_leaf, entered, filled, help_rule, inherited, with_index}
 use Rattle.clap.specs.Walk.{Held, Outcome, Step, Waiting, Walk, done, waits, plain, refused, idle, option, positional, next, trailing, subcommand, value}
-use Rattle.clap.specs.Walk.{after_flag, after_step, arg_by_id, arg_by_index, arg_by_long, arg_by_short, at_row, attached_value, bundle, bundle_met, bundle_step, finished, flag_met, has_row, is_pending, long_met, long_or_other, more_values, nothing_held, option_met, option_word, plain_word, positional_held, reacted, settled, settled_rows, short_met, short_or_plain, takes_several, takes_values, to_positional, used, used_by_id, walk, walk_from, walked, walked_from, with_default, with_values, without, word_met, rows_after}
+use Rattle.clap.specs.Walk.{after_flag, after_step, arg_by_id, arg_by_index, arg_by_long, arg_by_short, at_row, attached_value, bundle, bundle_met, bundle_step, default_rows, finished, flag_met, has_row, is_empty, is_pending, long_met, long_or_other, more_values, nothing_held, option_met, option_word, plain_word, positional_held, reacted, reading_by, settled, settled_rows, short_met, short_or_plain, takes_several, takes_values, to_positional, used, used_by_id, walk, walk_from, walked, walked_from, with_default, with_values, without, word_met, rows_after}
 use Rattle.clap.specs.Faults.{bundle_fault, bundle_step_fault, check_fault, defaults_fault, entered_fault, flag_word_fault, flags_fault, level_fault, long_fault, option_fault, positional_fault, react_fault, repeat_fault, set_fault, settle_fault, short_fault, step_fault, turn_fault, use_fault, values_fault, walk_fault, word_fault}
 use Rattle.clap.specs.declared.error.kind.ErrorKind.TheVariants.{DisplayHelp, InvalidValue, MissingRequiredArgument, TooManyValues, ValueValidation, WrongNumberOfValues}
-use Rattle.clap.specs.declared.builder.value_parser.ValueParser.{ValueParser}
 use Rattle.clap.specs.declared.builder.value_parser.ValueParser.TheVariants as parsers
+use Rattle.clap.specs.declared.builder.value_parser.Reading.{Reading}
 use Rattle.clap.specs.declared.builder.value_parser.Reading.TheVariants.{AsWritten}
 use Rattle.clap.specs.declared.parser.matches.ValueSource.{ValueSource}
 use Rattle.clap.specs.declared.parser.matches.ValueSource.TheVariants.{CommandLine, DefaultValue}
-use Rattle.mcv_words.specs.Ranges.{client_limit, hub_limit, session_limit, timeout_limit, window_limit}
-use Rattle.mcv_words.specs.Words.{admin_rule, at_rule, cert_rule, check_app, client_timeout_rule, faults, file_rule, flag_rule, hubs_rule, legs_app, listen_rule, mcv_app, named, quiet_rule, run_app, server_timeout_rule, sessions_rule, spool_app, spool_rule, window_rule, max_clients_rule}
+use Rattle.clap.proofs.ValueTestLemmas.{accepts-Accepts}
+use Rattle.mcv_words.specs.Table.{NumberOption, at_option, client_timeout_option, hubs_option, max_clients_option, server_timeout_option, sessions_option, window_option}
+use Rattle.mcv_words.specs.Words.{CanRun, IsGivenIn, MayBeGivenIn, check_app, faults, file_rule, flag_rule, legs_app, mcv_app, named, number_rule, option_rule, run_app, spool_app}
 use Rattle.mcv_words.proofs.CommandIsNamed.{StopsAtCommand, none_below, none_of, some_kind, stop_of, stops_at_command}
 
 -- ---- rows
@@ -287,8 +289,39 @@ value_passes : (repeated values more : Kinds) (v : Bool) → or_else repeated (o
 value_passes repeated values more v none =
     accepted v (none_of (cond v [] (ValueValidation ∷ [])) more (none_of repeated (or_else (cond v [] (ValueValidation ∷ [])) more) none).1).0
 
-no_help : (values : List Text) (rows : List Row) → use_fault false (with_index 1 (filled help_rule)) values rows ≡ [] → ⊥
-no_help values rows none = some_kind DisplayHelp [] (none_of (range_kinds 0 0 (length values)) (DisplayHelp ∷ []) none).1
+no_value_for_flag : (n : ℕ) → range_kinds 0 0 (suc n) ≡ [] → ⊥
+no_value_for_flag n none =
+    let apart : (0 == suc n) ≡ false = ne_eqb 0 (suc n) (λ same. omega arith) in
+    some_kind WrongNumberOfValues [] (rw apart at none)
+
+abbrev text_option : Text → (wanted : Bool) → Rule
+text_option name wanted = with_index 1 (filled (record (option_rule name) { required = wanted }))
+
+text_tame : (s : Shape) (name : Text) (wanted : Bool) → arg_by_id s.rules name ≡ Some (text_option name wanted) → IsTame s (text_option name wanted)
+text_tame s name wanted known [] rows none good = absurd (some_kind InvalidValue [] none)
+text_tame s name wanted known (v ∷ vs) rows none good = written s.rules name v vs rows (rw known refl) good
+
+abbrev number_option : NumberOption → Rule
+number_option o = with_index 1 (filled (number_rule o))
+
+number_tame : (s : Shape) (o : NumberOption) → arg_by_id s.rules o.name ≡ Some (number_option o) → IsTame s (number_option o)
+number_tame s o known [] rows none good = absurd (some_kind InvalidValue [] none)
+number_tame s o known (v ∷ vs) rows none good =
+    let again : Bool = s.args_override_self in
+    let taken = none_of (range_kinds 1 1 (suc (length vs))) (set_fault again (number_option o) (v ∷ vs) rows) none in
+    let passes = value_passes (repeat_fault again o.name rows) [] (values_fault (number_option o) vs) _ taken.1 in
+    written s.rules o.name v vs rows (rw known passes) good
+
+abbrev flag_option : Text → (short : Option ℕ) → Rule
+flag_option name short = with_index 1 (filled (record (flag_rule name) { short = short }))
+
+flag_tame : (s : Shape) (name : Text) (short : Option ℕ) → arg_by_id s.rules name ≡ Some (flag_option name short) → IsTame s (flag_option name short)
+flag_tame s name short known [] rows none good = written s.rules name (codes "true") [] rows (rw known refl) good
+flag_tame s name short known (v ∷ vs) rows none good =
+    absurd (no_value_for_flag (length vs) (none_of (range_kinds 0 0 (suc (length vs))) (set_fault s.args_override_self (flag_option name short) (v ∷ vs) rows) none).0)
+
+help_tame : (s : Shape) → IsTame s (with_index 1 (filled help_rule))
+help_tame s values rows none good = absurd (some_kind DisplayHelp [] (none_of (range_kinds 0 0 (length values)) (DisplayHelp ∷ []) none).1)
 
 -- ---- defaults and options that are wanted
 
@@ -303,38 +336,34 @@ no_value id (r ∷ rs) none =
     let both = row_apart (bytes_eq r.id id) (has_row id rs) none in
     rw both.0 (no_value id rs both.1)
 
--- an option has no value, or one that its parser takes
-abbrev MayHaveValue : List Rule → Text → List Row → Type 0
-MayHaveValue c id rows = (one_of id rows ≡ None) ⊎ ((v : Text) × (one_of id rows ≡ Some v) × Suits c id v)
-
-may_have_value : (c : List Rule) (id : Text) (rows : List Row) → AreGood c rows → MayHaveValue c id rows
-may_have_value c id rows good = go (has_row id rows) refl
-  where
-    go : (b : Bool) → has_row id rows ≡ b → MayHaveValue c id rows
-    go true is =
-        let found = found_value c id rows is good in
-        inr (found.0, found.2, found.3)
-    go false is = inl (no_value id rows is)
-
 added : (id : Text) (change : Row → List Row) (missing rows : List Row) → has_row id rows ≡ false → has_row id missing ≡ true → has_row id (at_row id change missing rows) ≡ true
 added id change missing [] none new = new
 added id change missing (r ∷ rs) none new =
     let both = row_apart (bytes_eq r.id id) (has_row id rs) none in
     rw both.0 (rw both.0 (added id change missing rs both.1 new))
 
--- after the default of an option its rows are good, and there is one
-defaulted : (c : List Rule) (id v : Text) (rows : List Row) → bytes_eq id id ≡ true → Suits c id v → AreGood c rows
-    → AreGood c (cond (has_row id rows) rows (with_values id AsWritten DefaultValue (v ∷ []) rows))
-    × (has_row id (cond (has_row id rows) rows (with_values id AsWritten DefaultValue (v ∷ []) rows)) ≡ true)
-defaulted c id v rows itself suits good = go (has_row id rows) refl
+-- the default of an argument suits it, where it has one
+abbrev IsGoodDefault : List Rule → (id : Text) → Reading → (defaults : List Text) → Type 0
+IsGoodDefault c id how [] = ⊤
+IsGoodDefault c id how (v ∷ vs) = (how ≡ AsWritten) × Suits c id v
+
+abbrev HaveGoodDefaults : List Rule → List Rule → Type 0
+HaveGoodDefaults c [] = ⊤
+HaveGoodDefaults c (a ∷ rest) = IsGoodDefault c a.id (reading_by a) a.defaults × HaveGoodDefaults c rest
+
+default_good : (c : List Rule) (id : Text) (how : Reading) (defaults : List Text) (rows : List Row) → IsGoodDefault c id how defaults → AreGood c rows
+    → AreGood c (cond (has_row id rows) rows (default_rows id how defaults rows))
+default_good c id how defaults rows suits good = go (has_row id rows) defaults suits
   where
-    go : (b : Bool) → has_row id rows ≡ b
-        → AreGood c (cond b rows (with_values id AsWritten DefaultValue (v ∷ []) rows)) × (has_row id (cond b rows (with_values id AsWritten DefaultValue (v ∷ []) rows)) ≡ true)
-    go true is = (good, is)
-    go false is =
-        let missing : List Row = record { id = id; values = v ∷ []; count = None; source = Some DefaultValue; reading = AsWritten } ∷ [] in
-        let there : has_row id missing ≡ true = rw itself refl in
-        (values_good c id DefaultValue v [] rows suits good, added id (more_values DefaultValue (v ∷ [])) missing rows is there)
+    go : (b : Bool) (values : List Text) → IsGoodDefault c id how values → AreGood c (cond b rows (default_rows id how values rows))
+    go true values suit = good
+    go false [] suit = good
+    go false (v ∷ vs) suit = subst (λ (by : Reading). AreGood c (with_values id by DefaultValue (v ∷ vs) rows)) (sym suit.0) (values_good c id DefaultValue v vs rows suit.1 good)
+
+-- after the defaults of arguments the rows are good
+defaults_good : (c rules : List Rule) (rows : List Row) → HaveGoodDefaults c rules → AreGood c rows → AreGood c (fold with_default rows rules)
+defaults_good c [] rows suit good = good
+defaults_good c (a ∷ rest) rows suit good = defaults_good c rest (with_default rows a) suit.1 (default_good c a.id (reading_by a) a.defaults rows suit.0 good)
 
 kept_by_or : (b c d : Bool) → b || c ≡ true → (c ≡ true → d ≡ true) → b || d ≡ true
 kept_by_or true c d has more = refl
@@ -353,17 +382,44 @@ kept_by_values id other values missing (r ∷ rs) has =
     go true later = has
     go false later = later
 
--- .. and so does the default of the other
-kept : (id other v : Text) (rows : List Row) → has_row id rows ≡ true → has_row id (cond (has_row other rows) rows (with_values other AsWritten DefaultValue (v ∷ []) rows)) ≡ true
-kept id other v rows has = go (has_row other rows)
+-- .. and so do the defaults of others
+kept : (id other : Text) (how : Reading) (defaults : List Text) (rows : List Row) → has_row id rows ≡ true
+    → has_row id (cond (has_row other rows) rows (default_rows other how defaults rows)) ≡ true
+kept id other how defaults rows has = go (has_row other rows) defaults
   where
-    go : (b : Bool) → has_row id (cond b rows (with_values other AsWritten DefaultValue (v ∷ []) rows)) ≡ true
-    go true = has
-    go false = kept_by_values id other (v ∷ []) (record { id = other; values = v ∷ []; count = None; source = Some DefaultValue; reading = AsWritten } ∷ []) rows has
+    go : (b : Bool) (values : List Text) → has_row id (cond b rows (default_rows other how values rows)) ≡ true
+    go true values = has
+    go false [] = has
+    go false (v ∷ vs) = kept_by_values id other (v ∷ vs) (record { id = other; values = v ∷ vs; count = None; source = Some DefaultValue; reading = how } ∷ []) rows has
 
-unchanged : (b : Bool) (rows : List Row) → cond b rows rows ≡ rows
-unchanged true rows = refl
-unchanged false rows = refl
+all_kept : (id : Text) (rules : List Rule) (rows : List Row) → has_row id rows ≡ true → has_row id (fold with_default rows rules) ≡ true
+all_kept id [] rows has = has
+all_kept id (a ∷ rest) rows has = all_kept id rest (with_default rows a) (kept id a.id (reading_by a) a.defaults rows has)
+
+-- an argument with a default has a row then
+given_row : (id : Text) (how : Reading) (defaults : List Text) (rows : List Row) → bytes_eq id id ≡ true → is_empty defaults ≡ false
+    → has_row id (cond (has_row id rows) rows (default_rows id how defaults rows)) ≡ true
+given_row id how defaults rows itself some = go (has_row id rows) refl defaults some
+  where
+    go : (b : Bool) → has_row id rows ≡ b → (values : List Text) → is_empty values ≡ false → has_row id (cond b rows (default_rows id how values rows)) ≡ true
+    go true is values none = is
+    go false is [] none = absurd (true≢false none)
+    go false is (v ∷ vs) none =
+        let missing : List Row = record { id = id; values = v ∷ vs; count = None; source = Some DefaultValue; reading = how } ∷ [] in
+        let there : has_row id missing ≡ true = rw itself refl in
+        added id (more_values DefaultValue (v ∷ vs)) missing rows is there
+
+abbrev HasDefault : Text → List Rule → Type 0
+HasDefault id [] = ⊥
+HasDefault id (a ∷ rest) = ((a.id ≡ id) × (is_empty a.defaults ≡ false)) ⊎ HasDefault id rest
+
+defaulted : (id : Text) (rules : List Rule) (rows : List Row) → bytes_eq id id ≡ true → HasDefault id rules → has_row id (fold with_default rows rules) ≡ true
+defaulted id [] rows itself has = absurd has
+defaulted id (a ∷ rest) rows itself (inl here) =
+    all_kept id rest (with_default rows a)
+    (subst (λ (name : Text). has_row name (with_default rows a) ≡ true) here.0
+    (given_row a.id (reading_by a) a.defaults rows (subst (λ (name : Text). bytes_eq name name ≡ true) (sym here.0) itself) here.1))
+defaulted id (a ∷ rest) rows itself (inr later) = defaulted id rest (with_default rows a) itself later
 
 given_has : (id : Text) (rows : List Row) → is_given id rows ≡ true → has_row id rows ≡ true
 given_has id [] given = absurd (true≢false (sym given))
@@ -373,216 +429,113 @@ given_has id (r ∷ rs) given = go (bytes_eq r.id id) refl (λ more. given_has i
     go true is rest = rw is refl
     go false is rest = rw is (rest (rw is at given))
 
+-- an option that has a row is given a number of its range
+given_in : (c : List Rule) (o : NumberOption) (rows : List Row) → arg_by_id c o.name ≡ Some (number_option o) → AreGood c rows → has_row o.name rows ≡ true → IsGivenIn o rows
+given_in c o rows known good has =
+    let found = found_value c o.name rows has good in
+    let takes = accepts-Accepts false (parsers.Unsigned o.least o.most) found.0 (rw known at found.3) in
+    (digits_value 10 (without_leading_plus found.0), (found.0, found.2, takes.0, refl), takes.2, takes.3, takes.1)
+
+may_be_given_in : (c : List Rule) (o : NumberOption) (rows : List Row) → arg_by_id c o.name ≡ Some (number_option o) → AreGood c rows → MayBeGivenIn o rows
+may_be_given_in c o rows known good = go (has_row o.name rows) refl
+  where
+    go : (b : Bool) → has_row o.name rows ≡ b → MayBeGivenIn o rows
+    go true is = inr (given_in c o rows known good is)
+    go false is = inl (no_value o.name rows is)
+
+-- the option of a text that is given has one
+has_text : (c : List Rule) (name : Text) (rows : List Row) → AreGood c rows → is_given name rows ≡ true → IsSome (first_of name rows)
+has_text c name rows good given =
+    let found = found_value c name rows (given_has name rows given) good in
+    subst (λ (o : Option Text). IsSome o) (sym found.1) refl
+
+-- what words leave at the end, where no fault is found with them
+ended : (s : Shape) → AreTame s s.rules → HaveGoodDefaults s.rules s.rules → (words : List Text) → level_fault s [] nothing_held words false [] ≡ []
+    → AreGood s.rules (rows_after s.rules [] words) × (check_fault s (rows_after s.rules [] words) false ≡ [])
+ended s tame suit words none =
+    let leaf = leaf_good s tame words none in
+    (defaults_good s.rules s.rules (settled s.rules (walk s.rules [] nothing_held words).held).rows suit leaf.0, leaf.1)
+
+defaults_row : (s : Shape) (id : Text) (words : List Text) → bytes_eq id id ≡ true → HasDefault id s.rules → has_row id (rows_after s.rules [] words) ≡ true
+defaults_row s id words itself has = defaulted id s.rules (settled s.rules (walk s.rules [] nothing_held words).held).rows itself has
+
 -- ---- `legs`
 
 abbrev legs : Shape
 legs = built_leaf (inherited (built mcv_app).top legs_app.top)
 
-at_tame : IsTame legs (with_index 1 (filled at_rule))
-at_tame [] rows none good = absurd (some_kind InvalidValue [] none)
-at_tame (v ∷ vs) rows none good =
-    let taken = none_of (range_kinds 1 1 (suc (length vs))) (set_fault false (with_index 1 (filled at_rule)) (v ∷ vs) rows) none in
-    written legs.rules (codes "at") v vs rows (value_passes (repeat_fault false (codes "at") rows) [] (values_fault (with_index 1 (filled at_rule)) vs) _ taken.1) good
-
-legs_help : IsTame legs (with_index 1 (filled help_rule))
-legs_help values rows none good = absurd (no_help values rows none)
-
-abbrev pub at_parser : ValueParser
-at_parser = parsers.Unsigned 0 18446744073709551615
-
-abbrev pub Passes : ValueParser → Text → Type 0
-Passes parser text = accepts false parser text ≡ true
-
--- the option has a value that the parser of such numbers takes
-abbrev pub HasNumber : (name : Text) → (least most : ℕ) → List Row → Type 0
-HasNumber name least most rows = (text : Text) × (one_of name rows ≡ Some text) × Passes (parsers.Unsigned least most) text
-
--- it has none, or one of these
-abbrev pub MayHaveNumber : (name : Text) → (least most : ℕ) → List Row → Type 0
-MayHaveNumber name least most rows = (one_of name rows ≡ None) ⊎ HasNumber name least most rows
-
-abbrev pub HasAt : List Row → Type 0
-HasAt = HasNumber (codes "at") 0 18446744073709551615
-
-legs_given : (words : List Text) → level_fault legs [] nothing_held words false [] ≡ [] → HasAt (rows_after legs.rules [] words)
+legs_given : (words : List Text) → level_fault legs [] nothing_held words false [] ≡ [] → IsGivenIn at_option (rows_after legs.rules [] words)
 legs_given words none =
-    let tame : AreTame legs legs.rules = (at_tame, (legs_help, tt)) in
-    let start : List Row = (settled legs.rules (walk legs.rules [] nothing_held words).held).rows in
-    let after : List Row = with_default start (with_index 1 (filled at_rule)) in
-    let last = defaulted legs.rules (codes "at") (codes "0") start refl refl (leaf_good legs tame words none).0 in
-    let found = found_value legs.rules (codes "at") after last.1 last.0 in
-    subst HasAt (sym (unchanged (has_row (codes "help") after) after)) (found.0, found.2, found.3)
+    let tame : AreTame legs legs.rules = (number_tame legs at_option refl, (help_tame legs, tt)) in
+    let suit : HaveGoodDefaults legs.rules legs.rules = ((refl, refl), (tt, tt)) in
+    let good = (ended legs tame suit words none).0 in
+    given_in legs.rules at_option (rows_after legs.rules [] words) refl good (defaults_row legs at_option.name words refl (inl (refl, refl)))
 
 -- ---- `check`
 
 abbrev check : Shape
 check = built_leaf (inherited (built mcv_app).top check_app.top)
 
-cert_tame : IsTame check (with_index 1 (filled cert_rule))
-cert_tame [] rows none good = absurd (some_kind InvalidValue [] none)
-cert_tame (v ∷ vs) rows none good = written check.rules (codes "cert") v vs rows refl good
-
-check_window_tame : IsTame check (with_index 1 (filled window_rule))
-check_window_tame [] rows none good = absurd (some_kind InvalidValue [] none)
-check_window_tame (v ∷ vs) rows none good =
-    let taken = none_of (range_kinds 1 1 (suc (length vs))) (set_fault false (with_index 1 (filled window_rule)) (v ∷ vs) rows) none in
-    written check.rules (codes "window") v vs rows (value_passes (repeat_fault false (codes "window") rows) [] (values_fault (with_index 1 (filled window_rule)) vs) _ taken.1) good
-
-no_value_for_flag : (n : ℕ) → range_kinds 0 0 (suc n) ≡ [] → ⊥
-no_value_for_flag n none =
-    let apart : (0 == suc n) ≡ false = ne_eqb 0 (suc n) (λ same. omega arith) in
-    some_kind WrongNumberOfValues [] (rw apart at none)
-
-explain_tame : IsTame check (with_index 1 (filled (flag_rule (codes "explain"))))
-explain_tame [] rows none good = written check.rules (codes "explain") (codes "true") [] rows refl good
-explain_tame (v ∷ vs) rows none good = absurd (no_value_for_flag (length vs) (none_of (range_kinds 0 0 (suc (length vs))) (set_fault false (with_index 1 (filled (flag_rule (codes "explain")))) (v ∷ vs) rows) none).0)
-
-json_tame : IsTame check (with_index 1 (filled (flag_rule (codes "json"))))
-json_tame [] rows none good = written check.rules (codes "json") (codes "true") [] rows refl good
-json_tame (v ∷ vs) rows none good = absurd (no_value_for_flag (length vs) (none_of (range_kinds 0 0 (suc (length vs))) (set_fault false (with_index 1 (filled (flag_rule (codes "json")))) (v ∷ vs) rows) none).0)
-
-quiet_tame : IsTame check (with_index 1 (filled quiet_rule))
-quiet_tame [] rows none good = written check.rules (codes "quiet") (codes "true") [] rows refl good
-quiet_tame (v ∷ vs) rows none good = absurd (no_value_for_flag (length vs) (none_of (range_kinds 0 0 (suc (length vs))) (set_fault false (with_index 1 (filled quiet_rule)) (v ∷ vs) rows) none).0)
-
-check_help : IsTame check (with_index 1 (filled help_rule))
-check_help values rows none good = absurd (no_help values rows none)
-
-abbrev pub HasWindow : List Row → Type 0
-HasWindow = HasNumber (codes "window") 0 window_limit
-
-check_given : (words : List Text) → level_fault check [] nothing_held words false [] ≡ [] → HasWindow (rows_after check.rules [] words)
+check_given : (words : List Text) → level_fault check [] nothing_held words false [] ≡ [] → IsGivenIn window_option (rows_after check.rules [] words)
 check_given words none =
-    let tame : AreTame check check.rules = (cert_tame, (check_window_tame, (explain_tame, (json_tame, (quiet_tame, (check_help, tt)))))) in
-    let start : List Row = (settled check.rules (walk check.rules [] nothing_held words).held).rows in
-    let given : List Row = with_default start (with_index 1 (filled cert_rule)) in
-    let windowed : List Row = with_default given (with_index 1 (filled window_rule)) in
-    let explained : List Row = with_default windowed (with_index 1 (filled (flag_rule (codes "explain")))) in
-    let reported : List Row = with_default explained (with_index 1 (filled (flag_rule (codes "json")))) in
-    let after : List Row = with_default reported (with_index 1 (filled quiet_rule)) in
-    let same : given ≡ start = unchanged (has_row (codes "cert") start) start in
-    let good = subst (λ (rows : List Row). AreGood check.rules rows) (sym same) (leaf_good check tame words none).0 in
-    let first = defaulted check.rules (codes "window") (codes "0") given refl refl good in
-    let second = defaulted check.rules (codes "explain") (codes "false") windowed refl refl first.0 in
-    let third = defaulted check.rules (codes "json") (codes "false") explained refl refl second.0 in
-    let last = defaulted check.rules (codes "quiet") (codes "false") reported refl refl third.0 in
-    let has = kept (codes "window") (codes "quiet") (codes "false") reported
-    (kept (codes "window") (codes "json") (codes "false") explained (kept (codes "window") (codes "explain") (codes "false") windowed first.1)) in
-    let found = found_value check.rules (codes "window") after has last.0 in
-    subst HasWindow (sym (unchanged (has_row (codes "help") after) after)) (found.0, found.2, found.3)
+    let tame : AreTame check check.rules = (
+      text_tame check (codes "cert") false refl,
+      (
+        number_tame check window_option refl,
+        (flag_tame check (codes "explain") None refl, (flag_tame check (codes "json") None refl, (flag_tame check (codes "quiet") (Some 113) refl, (help_tame check, tt)))),
+      ),
+    ) in
+    let suit : HaveGoodDefaults check.rules check.rules = (tt, ((refl, refl), ((refl, refl), ((refl, refl), ((refl, refl), (tt, tt)))))) in
+    let good = (ended check tame suit words none).0 in
+    given_in check.rules window_option (rows_after check.rules [] words) refl good (defaults_row check window_option.name words refl (inr (inl (refl, refl))))
 
 -- ---- `run`
 
 abbrev run : Shape
 run = built_leaf (inherited (built mcv_app).top run_app.top)
 
-listen_tame : IsTame run (with_index 1 (filled listen_rule))
-listen_tame [] rows none good = absurd (some_kind InvalidValue [] none)
-listen_tame (v ∷ vs) rows none good = written run.rules (codes "listen") v vs rows refl good
-
-spool_tame : IsTame run (with_index 1 (filled spool_rule))
-spool_tame [] rows none good = absurd (some_kind InvalidValue [] none)
-spool_tame (v ∷ vs) rows none good = written run.rules (codes "spool") v vs rows refl good
-
-sessions_tame : IsTame run (with_index 1 (filled sessions_rule))
-sessions_tame [] rows none good = absurd (some_kind InvalidValue [] none)
-sessions_tame (v ∷ vs) rows none good =
-    let taken = none_of (range_kinds 1 1 (suc (length vs))) (set_fault false (with_index 1 (filled sessions_rule)) (v ∷ vs) rows) none in
-    written run.rules (codes "sessions") v vs rows (value_passes (repeat_fault false (codes "sessions") rows) [] (values_fault (with_index 1 (filled sessions_rule)) vs) _ taken.1) good
-
-hubs_tame : IsTame run (with_index 1 (filled hubs_rule))
-hubs_tame [] rows none good = absurd (some_kind InvalidValue [] none)
-hubs_tame (v ∷ vs) rows none good =
-    let taken = none_of (range_kinds 1 1 (suc (length vs))) (set_fault false (with_index 1 (filled hubs_rule)) (v ∷ vs) rows) none in
-    written run.rules (codes "hubs") v vs rows (value_passes (repeat_fault false (codes "hubs") rows) [] (values_fault (with_index 1 (filled hubs_rule)) vs) _ taken.1) good
-
-window_tame : IsTame run (with_index 1 (filled window_rule))
-window_tame [] rows none good = absurd (some_kind InvalidValue [] none)
-window_tame (v ∷ vs) rows none good =
-    let taken = none_of (range_kinds 1 1 (suc (length vs))) (set_fault false (with_index 1 (filled window_rule)) (v ∷ vs) rows) none in
-    written run.rules (codes "window") v vs rows (value_passes (repeat_fault false (codes "window") rows) [] (values_fault (with_index 1 (filled window_rule)) vs) _ taken.1) good
-
-server_timeout_tame : IsTame run (with_index 1 (filled server_timeout_rule))
-server_timeout_tame [] rows none good = absurd (some_kind InvalidValue [] none)
-server_timeout_tame (v ∷ vs) rows none good =
-    let taken = none_of (range_kinds 1 1 (suc (length vs))) (set_fault false (with_index 1 (filled server_timeout_rule)) (v ∷ vs) rows) none in
-    written run.rules (codes "server-timeout") v vs rows
-    (value_passes (repeat_fault false (codes "server-timeout") rows) [] (values_fault (with_index 1 (filled server_timeout_rule)) vs) _ taken.1) good
-
-client_timeout_tame : IsTame run (with_index 1 (filled client_timeout_rule))
-client_timeout_tame [] rows none good = absurd (some_kind InvalidValue [] none)
-client_timeout_tame (v ∷ vs) rows none good =
-    let taken = none_of (range_kinds 1 1 (suc (length vs))) (set_fault false (with_index 1 (filled client_timeout_rule)) (v ∷ vs) rows) none in
-    written run.rules (codes "client-timeout") v vs rows
-    (value_passes (repeat_fault false (codes "client-timeout") rows) [] (values_fault (with_index 1 (filled client_timeout_rule)) vs) _ taken.1) good
-
-max_clients_tame : IsTame run (with_index 1 (filled max_clients_rule))
-max_clients_tame [] rows none good = absurd (some_kind InvalidValue [] none)
-max_clients_tame (v ∷ vs) rows none good =
-    let taken = none_of (range_kinds 1 1 (suc (length vs))) (set_fault false (with_index 1 (filled max_clients_rule)) (v ∷ vs) rows) none in
-    written run.rules (codes "max-clients") v vs rows
-    (value_passes (repeat_fault false (codes "max-clients") rows) [] (values_fault (with_index 1 (filled max_clients_rule)) vs) _ taken.1) good
-
-admin_tame : IsTame run (with_index 1 (filled admin_rule))
-admin_tame [] rows none good = absurd (some_kind InvalidValue [] none)
-admin_tame (v ∷ vs) rows none good = written run.rules (codes "admin") v vs rows refl good
-
-run_help : IsTame run (with_index 1 (filled help_rule))
-run_help values rows none good = absurd (no_help values rows none)
-
--- the values of the options of `run`
-pub record HasAll (rows : List Row) : Type 0 where
-  pub listen : (text : Text) × (first_of (codes "listen") rows ≡ Some text)
-  pub spool : (text : Text) × (first_of (codes "spool") rows ≡ Some text)
-  pub sessions : MayHaveNumber (codes "sessions") 1 session_limit rows
-  pub hubs : HasNumber (codes "hubs") 1 hub_limit rows
-  pub window : HasNumber (codes "window") 0 window_limit rows
-  pub server_timeout : MayHaveNumber (codes "server-timeout") 1 timeout_limit rows
-  pub client_timeout : MayHaveNumber (codes "client-timeout") 1 timeout_limit rows
-  pub max_clients : MayHaveNumber (codes "max-clients") 1 client_limit rows
+run_tame : AreTame run run.rules
+run_tame = (
+  text_tame run (codes "listen") true refl,
+  (
+    text_tame run (codes "spool") true refl,
+    (
+      number_tame run sessions_option refl,
+      (
+        number_tame run hubs_option refl,
+        (
+          number_tame run window_option refl,
+          (
+            number_tame run server_timeout_option refl,
+            (number_tame run client_timeout_option refl, (number_tame run max_clients_option refl, (text_tame run (codes "admin") false refl, (help_tame run, tt)))),
+          ),
+        ),
+      ),
+    ),
+  ),
+)
 
 both_given : (a b : Bool) → cond (not a || (not b || false)) (MissingRequiredArgument ∷ []) [] ≡ [] → (a ≡ true) × (b ≡ true)
 both_given true true e = (refl, refl)
 both_given true false e = absurd (some_kind MissingRequiredArgument [] e)
 both_given false b e = absurd (some_kind MissingRequiredArgument [] e)
 
-run_given : (words : List Text) → level_fault run [] nothing_held words false [] ≡ [] → HasAll (rows_after run.rules [] words)
+run_given : (words : List Text) → level_fault run [] nothing_held words false [] ≡ [] → CanRun (rows_after run.rules [] words)
 run_given words none =
-    let tame : AreTame run run.rules = (listen_tame, (spool_tame, (sessions_tame, (hubs_tame, (window_tame, (server_timeout_tame, (client_timeout_tame, (max_clients_tame, (admin_tame, (run_help, tt)))))))))) in
-    let start : List Row = (settled run.rules (walk run.rules [] nothing_held words).held).rows in
-    let listened : List Row = with_default start (with_index 1 (filled listen_rule)) in
-    let spooled : List Row = with_default listened (with_index 1 (filled spool_rule)) in
-    let counted : List Row = with_default spooled (with_index 1 (filled sessions_rule)) in
-    let beside : List Row = with_default counted (with_index 1 (filled hubs_rule)) in
-    let all : List Row = with_default beside (with_index 1 (filled window_rule)) in
-    let served : List Row = with_default all (with_index 1 (filled server_timeout_rule)) in
-    let timed : List Row = with_default served (with_index 1 (filled client_timeout_rule)) in
-    let seated : List Row = with_default timed (with_index 1 (filled max_clients_rule)) in
-    let after : List Row = with_default seated (with_index 1 (filled admin_rule)) in
-    let same : counted ≡ start = unchanged (has_row (codes "sessions") spooled) spooled ∙ (unchanged (has_row (codes "spool") listened) listened ∙ unchanged (has_row (codes "listen") start) start) in
-    let leaf = leaf_good run tame words none in
-    let first = defaulted run.rules (codes "hubs") (codes "1") counted refl refl (subst (λ (rows : List Row). AreGood run.rules rows) (sym same) leaf.0) in
-    let last = defaulted run.rules (codes "window") (codes "0") beside refl refl first.0 in
-    let ended : rows_after run.rules [] words ≡ all =
-    unchanged (has_row (codes "help") after) after
-    ∙ (unchanged (has_row (codes "admin") seated) seated
-    ∙ (unchanged (has_row (codes "max-clients") timed) timed ∙ (unchanged (has_row (codes "client-timeout") served) served ∙ unchanged (has_row (codes "server-timeout") all) all))) in
-    let both = both_given (is_given (codes "listen") all) (is_given (codes "spool") all) (subst (λ (rows : List Row). check_fault run rows false ≡ []) ended leaf.1) in
-    let listen = found_value run.rules (codes "listen") all (given_has (codes "listen") all both.0) last.0 in
-    let spool = found_value run.rules (codes "spool") all (given_has (codes "spool") all both.1) last.0 in
-    let hubs = found_value run.rules (codes "hubs") all (kept (codes "hubs") (codes "window") (codes "0") beside first.1) last.0 in
-    let window = found_value run.rules (codes "window") all last.1 last.0 in
-    subst HasAll (sym ended)
-    (record {
-      listen = (listen.0, listen.1);
-      spool = (spool.0, spool.1);
-      sessions = may_have_value run.rules (codes "sessions") all last.0;
-      hubs = (hubs.0, hubs.2, hubs.3);
-      window = (window.0, window.2, window.3);
-      server_timeout = may_have_value run.rules (codes "server-timeout") all last.0;
-      client_timeout = may_have_value run.rules (codes "client-timeout") all last.0;
-      max_clients = may_have_value run.rules (codes "max-clients") all last.0;
-    })
+    let suit : HaveGoodDefaults run.rules run.rules = (tt, (tt, (tt, ((refl, refl), ((refl, refl), (tt, (tt, (tt, (tt, (tt, tt)))))))))) in
+    let end = ended run run_tame suit words none in
+    let rows : List Row = rows_after run.rules [] words in
+    let both = both_given (is_given (codes "listen") rows) (is_given (codes "spool") rows) end.1 in
+    record {
+      listen = has_text run.rules (codes "listen") rows end.0 both.0;
+      spool = has_text run.rules (codes "spool") rows end.0 both.1;
+      sessions = may_be_given_in run.rules sessions_option rows refl end.0;
+      hubs = given_in run.rules hubs_option rows refl end.0 (defaults_row run hubs_option.name words refl (inr (inr (inr (inl (refl, refl))))));
+      window = given_in run.rules window_option rows refl end.0 (defaults_row run window_option.name words refl (inr (inr (inr (inr (inl (refl, refl)))))));
+      server_timeout = may_be_given_in run.rules server_timeout_option rows refl end.0;
+      client_timeout = may_be_given_in run.rules client_timeout_option rows refl end.0;
+      max_clients = may_be_given_in run.rules max_clients_option rows refl end.0;
+    }
 
 -- ---- `spool`
 
@@ -593,34 +546,17 @@ file_tame : IsTame spool (with_index 1 (filled file_rule))
 file_tame [] rows none good = absurd (some_kind InvalidValue [] none)
 file_tame (v ∷ vs) rows none good = written spool.rules (codes "file") v vs rows refl good
 
-all_tame : IsTame spool (with_index 2 (filled (flag_rule (codes "all"))))
-all_tame [] rows none good = written spool.rules (codes "all") (codes "true") [] rows refl good
-all_tame (v ∷ vs) rows none good = absurd (no_value_for_flag (length vs) (none_of (range_kinds 0 0 (suc (length vs))) (set_fault false (with_index 2 (filled (flag_rule (codes "all")))) (v ∷ vs) rows) none).0)
-
-spool_help : IsTame spool (with_index 2 (filled help_rule))
-spool_help values rows none good = absurd (no_help values rows none)
-
--- the file of `spool` is given
-abbrev pub HasFile : List Row → Type 0
-HasFile rows = (text : Text) × (first_of (codes "file") rows ≡ Some text)
-
 one_given : (a : Bool) → cond (not a || false) (MissingRequiredArgument ∷ []) [] ≡ [] → a ≡ true
 one_given true e = refl
 one_given false e = absurd (some_kind MissingRequiredArgument [] e)
 
-spool_given : (words : List Text) → level_fault spool [] nothing_held words false [] ≡ [] → HasFile (rows_after spool.rules [] words)
+spool_given : (words : List Text) → level_fault spool [] nothing_held words false [] ≡ [] → IsSome (first_of (codes "file") (rows_after spool.rules [] words))
 spool_given words none =
-    let tame : AreTame spool spool.rules = (file_tame, (all_tame, (spool_help, tt))) in
-    let start : List Row = (settled spool.rules (walk spool.rules [] nothing_held words).held).rows in
-    let named : List Row = with_default start (with_index 1 (filled file_rule)) in
-    let after : List Row = with_default named (with_index 2 (filled (flag_rule (codes "all")))) in
-    let same : named ≡ start = unchanged (has_row (codes "file") start) start in
-    let leaf = leaf_good spool tame words none in
-    let last = defaulted spool.rules (codes "all") (codes "false") named refl refl (subst (λ (rows : List Row). AreGood spool.rules rows) (sym same) leaf.0) in
-    let ended : rows_after spool.rules [] words ≡ after = unchanged (has_row (codes "help") after) after in
-    let given = one_given (is_given (codes "file") after) (subst (λ (rows : List Row). check_fault spool rows false ≡ []) ended leaf.1) in
-    let file = found_value spool.rules (codes "file") after (given_has (codes "file") after given) last.0 in
-    subst HasFile (sym ended) (file.0, file.1)
+    let tame : AreTame spool spool.rules = (file_tame, (flag_tame spool (codes "all") None refl, (help_tame spool, tt))) in
+    let suit : HaveGoodDefaults spool.rules spool.rules = (tt, ((refl, refl), (tt, tt))) in
+    let end = ended spool tame suit words none in
+    let rows : List Row = rows_after spool.rules [] words in
+    has_text spool.rules (codes "file") rows end.0 (one_given (is_given (codes "file") rows) end.1)
 
 -- ---- all words
 
@@ -642,7 +578,7 @@ no_fault_at : (called : Text) (p : Text × List Text) → p.0 ≡ called → ent
 no_fault_at called p is none = subst (λ (n : Text). entered_fault (built mcv_app) (Some (n, p.1)) ≡ []) is none
 
 at_legs : (stop : Option (Text × List Text)) (rows : List Row) → StopsAtCommand stop → entered (built mcv_app) stop ≡ Some (codes "legs", rows)
-    → entered_fault (built mcv_app) stop ≡ [] → HasAt rows
+    → entered_fault (built mcv_app) stop ≡ [] → IsGivenIn at_option rows
 at_legs None rows stops at none = absurd (cc)
 at_legs (Some p) rows (inl other) at none = absurd (name_apart (codes "check") (codes "legs") _ rows refl refl (at_name (codes "legs") (codes "check") p rows other at))
 at_legs (Some p) rows (inr (inl other)) at none = absurd (name_apart (codes "draw") (codes "legs") _ rows refl refl (at_name (codes "legs") (codes "draw") p rows other at))
@@ -651,10 +587,10 @@ at_legs (Some p) rows (inr (inr (inr (inr (inl other))))) at none = absurd (name
 at_legs (Some p) rows (inr (inr (inr (inr (inr other))))) at none = absurd (name_apart (codes "spool") (codes "legs") _ rows refl refl (at_name (codes "legs") (codes "spool") p rows other at))
 at_legs (Some p) rows (inr (inr (inl is))) at none =
     let same : rows_after legs.rules [] p.1 ≡ rows = rows_there (codes "legs") (rows_after legs.rules [] p.1) rows (at_name (codes "legs") (codes "legs") p rows is at) in
-    subst HasAt same (legs_given p.1 (no_fault_at (codes "legs") p is none))
+    subst (λ (them : List Row). IsGivenIn at_option them) same (legs_given p.1 (no_fault_at (codes "legs") p is none))
 
 at_check : (stop : Option (Text × List Text)) (rows : List Row) → StopsAtCommand stop → entered (built mcv_app) stop ≡ Some (codes "check", rows)
-    → entered_fault (built mcv_app) stop ≡ [] → HasWindow rows
+    → entered_fault (built mcv_app) stop ≡ [] → IsGivenIn window_option rows
 at_check None rows stops at none = absurd (cc)
 at_check (Some p) rows (inr (inl other)) at none = absurd (name_apart (codes "draw") (codes "check") _ rows refl refl (at_name (codes "check") (codes "draw") p rows other at))
 at_check (Some p) rows (inr (inr (inl other))) at none = absurd (name_apart (codes "legs") (codes "check") _ rows refl refl (at_name (codes "check") (codes "legs") p rows other at))
@@ -663,10 +599,10 @@ at_check (Some p) rows (inr (inr (inr (inr (inl other))))) at none = absurd (nam
 at_check (Some p) rows (inr (inr (inr (inr (inr other))))) at none = absurd (name_apart (codes "spool") (codes "check") _ rows refl refl (at_name (codes "check") (codes "spool") p rows other at))
 at_check (Some p) rows (inl is) at none =
     let same : rows_after check.rules [] p.1 ≡ rows = rows_there (codes "check") (rows_after check.rules [] p.1) rows (at_name (codes "check") (codes "check") p rows is at) in
-    subst HasWindow same (check_given p.1 (no_fault_at (codes "check") p is none))
+    subst (λ (them : List Row). IsGivenIn window_option them) same (check_given p.1 (no_fault_at (codes "check") p is none))
 
 at_run : (stop : Option (Text × List Text)) (rows : List Row) → StopsAtCommand stop → entered (built mcv_app) stop ≡ Some (codes "run", rows)
-    → entered_fault (built mcv_app) stop ≡ [] → HasAll rows
+    → entered_fault (built mcv_app) stop ≡ [] → CanRun rows
 at_run None rows stops at none = absurd (cc)
 at_run (Some p) rows (inl other) at none = absurd (name_apart (codes "check") (codes "run") _ rows refl refl (at_name (codes "run") (codes "check") p rows other at))
 at_run (Some p) rows (inr (inl other)) at none = absurd (name_apart (codes "draw") (codes "run") _ rows refl refl (at_name (codes "run") (codes "draw") p rows other at))
@@ -675,10 +611,10 @@ at_run (Some p) rows (inr (inr (inr (inl other)))) at none = absurd (name_apart 
 at_run (Some p) rows (inr (inr (inr (inr (inr other))))) at none = absurd (name_apart (codes "spool") (codes "run") _ rows refl refl (at_name (codes "run") (codes "spool") p rows other at))
 at_run (Some p) rows (inr (inr (inr (inr (inl is))))) at none =
     let same : rows_after run.rules [] p.1 ≡ rows = rows_there (codes "run") (rows_after run.rules [] p.1) rows (at_name (codes "run") (codes "run") p rows is at) in
-    subst HasAll same (run_given p.1 (no_fault_at (codes "run") p is none))
+    subst CanRun same (run_given p.1 (no_fault_at (codes "run") p is none))
 
 at_spool : (stop : Option (Text × List Text)) (rows : List Row) → StopsAtCommand stop → entered (built mcv_app) stop ≡ Some (codes "spool", rows)
-    → entered_fault (built mcv_app) stop ≡ [] → HasFile rows
+    → entered_fault (built mcv_app) stop ≡ [] → IsSome (first_of (codes "file") rows)
 at_spool None rows stops at none = absurd (cc)
 at_spool (Some p) rows (inl other) at none = absurd (name_apart (codes "check") (codes "spool") _ rows refl refl (at_name (codes "spool") (codes "check") p rows other at))
 at_spool (Some p) rows (inr (inl other)) at none = absurd (name_apart (codes "draw") (codes "spool") _ rows refl refl (at_name (codes "spool") (codes "draw") p rows other at))
@@ -687,20 +623,20 @@ at_spool (Some p) rows (inr (inr (inr (inl other)))) at none = absurd (name_apar
 at_spool (Some p) rows (inr (inr (inr (inr (inl other))))) at none = absurd (name_apart (codes "run") (codes "spool") _ rows refl refl (at_name (codes "spool") (codes "run") p rows other at))
 at_spool (Some p) rows (inr (inr (inr (inr (inr is))))) at none =
     let same : rows_after spool.rules [] p.1 ≡ rows = rows_there (codes "spool") (rows_after spool.rules [] p.1) rows (at_name (codes "spool") (codes "spool") p rows is at) in
-    subst HasFile same (spool_given p.1 (no_fault_at (codes "spool") p is none))
+    subst (λ (them : List Row). IsSome (first_of (codes "file") them)) same (spool_given p.1 (no_fault_at (codes "spool") p is none))
 
 -- words that clap takes and that name `legs` give `--at` a value
-pub legs_values : (words : List Text) (rows : List Row) → faults words ≡ [] → named words ≡ Some (codes "legs", rows) → HasAt rows
+pub legs_values : (words : List Text) (rows : List Row) → faults words ≡ [] → named words ≡ Some (codes "legs", rows) → IsGivenIn at_option rows
 legs_values words rows none is = at_legs (stop_of words) rows (stops_at_command words none) is (none_below words none)
 
--- .. and those that name `check` give `--window` one
-pub check_values : (words : List Text) (rows : List Row) → faults words ≡ [] → named words ≡ Some (codes "check", rows) → HasWindow rows
+-- .. and those that name `check` give `--window` a number of its range
+pub check_values : (words : List Text) (rows : List Row) → faults words ≡ [] → named words ≡ Some (codes "check", rows) → IsGivenIn window_option rows
 check_values words rows none is = at_check (stop_of words) rows (stops_at_command words none) is (none_below words none)
 
 -- .. and those that name `run` give each of its options one
-pub run_values : (words : List Text) (rows : List Row) → faults words ≡ [] → named words ≡ Some (codes "run", rows) → HasAll rows
+pub run_values : (words : List Text) (rows : List Row) → faults words ≡ [] → named words ≡ Some (codes "run", rows) → CanRun rows
 run_values words rows none is = at_run (stop_of words) rows (stops_at_command words none) is (none_below words none)
 
 -- .. and those that name `spool` give its file
-pub spool_values : (words : List Text) (rows : List Row) → faults words ≡ [] → named words ≡ Some (codes "spool", rows) → HasFile rows
+pub spool_values : (words : List Text) (rows : List Row) → faults words ≡ [] → named words ≡ Some (codes "spool", rows) → IsSome (first_of (codes "file") rows)
 spool_values words rows none is = at_spool (stop_of words) rows (stops_at_command words none) is (none_below words none)

@@ -1,14 +1,14 @@
 -- What the words of a command line ask for. The words are those of the shell, the program's name
 -- first; how they are read is clap's: `fault_of` lists the kinds of fault that it finds with words,
 -- and `subcommand_of` the subcommand that they name.
-use Rattle.std.specs.Prelude.{◌≡◌, ◌≢◌, ◌<◌, ◌≤◌, ◌^◌, ◌⊎◌, ⊤, ℕ, Bool, true, false, List, [], ◌∷◌, Option, None, Some, IsSome, codes, fold, option_map}
+use Rattle.std.specs.Prelude.{◌≡◌, ◌≢◌, ◌<◌, ◌≤◌, ◌^◌, ◌⊎◌, ⊤, ℕ, Bool, true, false, List, [], ◌∷◌, Option, None, Some, IsSome, codes, fold, option_map, option_to_list}
 use Rattle.std.specs.Str.Parse.{IsNumeral, digits_value, without_leading_plus}
 use Rattle.clap.specs.Words.{App, IsAmong, Kinds, Row, Rule, Text, fault_of, first_of, new_app, new_rule, one_of, subcommand_of, with_rule, with_subcommand}
 use Rattle.clap.specs.declared.builder.action.ArgAction.TheVariants.{SetTrue}
 use Rattle.clap.specs.declared.builder.value_parser.ValueParser.TheVariants as parsers
 use Rattle.clap.specs.declared.error.kind.ErrorKind.{ErrorKind}
 use Rattle.clap.specs.declared.error.kind.ErrorKind.TheVariants.{DisplayHelp, DisplayVersion, OutOfMemory}
-use Rattle.mcv_words.specs.Ranges.{session_limit, timeout_limit, window_limit, client_limit, hub_limit}
+use Rattle.mcv_words.specs.Table.{NumberOption, at_option, client_timeout_option, hubs_option, max_clients_option, option_of, server_timeout_option, sessions_option, window_option}
 use Rattle.mcv_words.specs.declared.options.CheckOptions.{CheckOptions}
 use Rattle.mcv_words.specs.declared.options.ClientTimeout.{ClientTimeout}
 use Rattle.mcv_words.specs.declared.options.MaxClients.{MaxClients}
@@ -17,6 +17,10 @@ use Rattle.mcv_words.specs.declared.options.ServerTimeout.{ServerTimeout}
 use Rattle.mcv_words.specs.declared.options.Sessions.{Sessions}
 use Rattle.mcv_words.specs.declared.options.Settings.{Settings}
 use Rattle.mcv_words.specs.declared.options.SpoolOptions.{SpoolOptions}
+use Rattle.mcv_words.specs.declared.table.FlagRow.{FlagRow}
+use Rattle.mcv_words.specs.declared.table.OptionRow.{OptionRow}
+use Rattle.mcv_words.specs.declared.table.OptionRow.TheVariants as OptionRows
+use Rattle.mcv_words.specs.declared.table.TextRow.{TextRow}
 use Rattle.mcv_words.specs.declared.words.Job.{Job}
 use Rattle.mcv_words.specs.declared.words.Job.TheVariants.{Legs, Check, Draw, Mend, Run, Spool}
 use Rattle.mcv_words.specs.declared.words.LineFault.{LineFault}
@@ -31,28 +35,16 @@ option_rule name = record (new_rule name) {
   value_names = 1;
 }
 
--- `--at SECONDS`: a number from 0 to 18446744073709551615, and 0 where it isn't given
-abbrev pub at_rule : Rule
-at_rule = record (option_rule (codes "at")) {
-  parser = Some (parsers.Unsigned 0 18446744073709551615);
-  defaults = codes "0" ∷ [];
+-- `--NAME N`: a number in the range of the option, and its default where it isn't given
+abbrev pub number_rule : NumberOption → Rule
+number_rule o = record (option_rule o.name) {
+  parser = Some (parsers.Unsigned o.least o.most);
+  defaults = option_to_list o.default;
 }
 
--- `legs [--at SECONDS]`
-abbrev pub legs_app : App
-legs_app = with_rule (new_app (codes "legs")) at_rule
-
--- `--cert FILE`
-abbrev pub cert_rule : Rule
-cert_rule = option_rule (codes "cert")
-
--- `--NAME N`: a number in a range
-abbrev pub number_rule : Text → (least most : ℕ) → Rule
-number_rule name least most = record (option_rule name) { parser = Some (parsers.Unsigned least most) }
-
--- `--window SECONDS`: a number from 0 to 4294967295, and 0 where it isn't given
-abbrev pub window_rule : Rule
-window_rule = record (number_rule (codes "window") 0 window_limit) { defaults = codes "0" ∷ [] }
+-- an option that is wanted
+abbrev pub required_rule : Text → Rule
+required_rule name = record (option_rule name) { required = true }
 
 -- a flag, which takes no value
 abbrev pub flag_rule : Text → Rule
@@ -61,14 +53,32 @@ flag_rule name = record (new_rule name) {
   action = Some SetTrue;
 }
 
+-- what a row of the code's table says of its option
+abbrev pub text_row_rule : TextRow → Rule
+text_row_rule row = record (option_rule row.name.now) { required = row.is_required }
+
+abbrev pub flag_row_rule : FlagRow → Rule
+flag_row_rule row = record (flag_rule row.name.now) { short = row.short }
+
+abbrev pub row_rule : OptionRow → Rule
+row_rule (OptionRows.Number row) = number_rule (option_of row)
+row_rule (OptionRows.Text row) = text_row_rule row
+row_rule (OptionRows.Flag row) = flag_row_rule row
+
+-- `legs [--at SECONDS]`
+abbrev pub legs_app : App
+legs_app = with_rule (new_app (codes "legs")) (number_rule at_option)
+
 -- `-q`, `--quiet`
 abbrev pub quiet_rule : Rule
 quiet_rule = record (flag_rule (codes "quiet")) { short = Some 113 }
 
--- `check [--cert FILE] [--window SECONDS] [--explain] [--json] [-q]`
+-- the options of `check`: `[--cert FILE] [--window SECONDS] [--explain] [--json] [-q]`
+abbrev pub check_rules : List Rule
+check_rules = option_rule (codes "cert") ∷ number_rule window_option ∷ flag_rule (codes "explain") ∷ flag_rule (codes "json") ∷ quiet_rule ∷ []
+
 abbrev pub check_app : App
-check_app =
-    with_rule (with_rule (with_rule (with_rule (with_rule (new_app (codes "check")) cert_rule) window_rule) (flag_rule (codes "explain"))) (flag_rule (codes "json"))) quiet_rule
+check_app = fold with_rule (new_app (codes "check")) check_rules
 
 -- `draw [--dot]`
 abbrev pub draw_app : App
@@ -78,41 +88,20 @@ draw_app = with_rule (new_app (codes "draw")) (flag_rule (codes "dot"))
 abbrev pub mend_app : App
 mend_app = with_rule (new_app (codes "mend")) (flag_rule (codes "patch"))
 
--- `--listen ADDRESS`, `--spool FILE`: wanted
-abbrev pub listen_rule : Rule
-listen_rule = record (option_rule (codes "listen")) { required = true }
-
-abbrev pub spool_rule : Rule
-spool_rule = record (option_rule (codes "spool")) { required = true }
-
--- `--sessions N`: a number from 1 to 1000000000
-abbrev pub sessions_rule : Rule
-sessions_rule = number_rule (codes "sessions") 1 session_limit
-
--- `--hubs N`: a number from 1 to 8, and 1 where it isn't given
-abbrev pub hubs_rule : Rule
-hubs_rule = record (number_rule (codes "hubs") 1 hub_limit) { defaults = codes "1" ∷ [] }
-
--- `--server-timeout MS`, `--client-timeout MS`: a number of milliseconds from 1 to 3600000
-abbrev pub server_timeout_rule : Rule
-server_timeout_rule = number_rule (codes "server-timeout") 1 timeout_limit
-
-abbrev pub client_timeout_rule : Rule
-client_timeout_rule = number_rule (codes "client-timeout") 1 timeout_limit
-
--- `--max-clients N`: a number from 1 to 1000000
-abbrev pub max_clients_rule : Rule
-max_clients_rule = number_rule (codes "max-clients") 1 client_limit
-
--- `--admin ADDRESS`
-abbrev pub admin_rule : Rule
-admin_rule = option_rule (codes "admin")
-
--- the options of `run`, in the order of its help
+-- the options of `run`, in the order of its help: `--listen ADDRESS` and `--spool FILE` are wanted
 abbrev pub run_rules : List Rule
-run_rules = listen_rule ∷ spool_rule ∷ sessions_rule ∷ hubs_rule ∷ window_rule ∷ server_timeout_rule ∷ client_timeout_rule ∷ max_clients_rule ∷ admin_rule ∷ []
+run_rules =
+    required_rule (codes "listen")
+    ∷ required_rule (codes "spool")
+    ∷ number_rule sessions_option
+    ∷ number_rule hubs_option
+    ∷ number_rule window_option
+    ∷ number_rule server_timeout_option
+    ∷ number_rule client_timeout_option
+    ∷ number_rule max_clients_option
+    ∷ option_rule (codes "admin")
+    ∷ []
 
--- `run --listen ADDRESS --spool FILE` with the options whose rules stand above
 abbrev pub run_app : App
 run_app = fold with_rule (new_app (codes "run")) run_rules
 
@@ -165,7 +154,7 @@ IsFlag flag rows b =
 
 -- the value of `--cert`, or none, that of `--window`, and whether `--explain`, `--json` and `-q` are given
 abbrev pub HasCheckValues : List Row → (cert : Option Text) → CheckOptions → Type 0
-HasCheckValues rows cert options = (cert ≡ first_of (codes "cert") rows) × IsNumberOf (codes "window") rows options.window.seconds
+HasCheckValues rows cert options = (cert ≡ first_of (codes "cert") rows) × IsNumberOf window_option.name rows options.window.seconds
     × IsFlag (codes "explain") rows options.explain × IsFlag (codes "json") rows options.json × IsFlag (codes "quiet") rows options.quiet
 
 -- clap takes the words, and they name the command `check` with these values
@@ -187,12 +176,12 @@ IsNumberIfGiven option rows (Some n) = IsNumberOf option rows n
 
 -- the numbers that the options of `run` have, none where one wasn't given
 pub record HasSettings (rows : List Row) (s : Settings) : Type 0 where
-  pub sessions : IsNumberIfGiven (codes "sessions") rows (option_map (λ (n : Sessions). n.count) s.sessions)
-  pub hubs : IsNumberOf (codes "hubs") rows s.hubs.count
-  pub window : IsNumberOf (codes "window") rows s.window.seconds
-  pub server_timeout : IsNumberIfGiven (codes "server-timeout") rows (option_map (λ (t : ServerTimeout). t.millis) s.server_timeout)
-  pub client_timeout : IsNumberIfGiven (codes "client-timeout") rows (option_map (λ (t : ClientTimeout). t.millis) s.client_timeout)
-  pub max_clients : IsNumberIfGiven (codes "max-clients") rows (option_map (λ (n : MaxClients). n.count) s.max_clients)
+  pub sessions : IsNumberIfGiven sessions_option.name rows (option_map (λ (n : Sessions). n.count) s.sessions)
+  pub hubs : IsNumberOf hubs_option.name rows s.hubs.count
+  pub window : IsNumberOf window_option.name rows s.window.seconds
+  pub server_timeout : IsNumberIfGiven server_timeout_option.name rows (option_map (λ (t : ServerTimeout). t.millis) s.server_timeout)
+  pub client_timeout : IsNumberIfGiven client_timeout_option.name rows (option_map (λ (t : ClientTimeout). t.millis) s.client_timeout)
+  pub max_clients : IsNumberIfGiven max_clients_option.name rows (option_map (λ (n : MaxClients). n.count) s.max_clients)
 
 -- what `run` is asked for: the address, the name of the spool's file, the operator's address or none, and the numbers, each of which is in its
 -- range by its type
@@ -277,29 +266,29 @@ IsSpoolOf rows (Mend patch) = ⊥
 IsSpoolOf rows (Run options) = ⊥
 IsSpoolOf rows (Spool options) = HasSpoolValues rows (spool_order_of options)
 
--- the option is given a number of this range
-abbrev pub IsGivenIn : (option : Text) → (least most : ℕ) → List Row → Type 0
-IsGivenIn option least most rows = (n : ℕ) × IsNumberOf option rows n × (least ≤ n) × (n ≤ most) × (n < 2 ^ 64)
+-- the option is given a number of its range
+abbrev pub IsGivenIn : NumberOption → List Row → Type 0
+IsGivenIn o rows = (n : ℕ) × IsNumberOf o.name rows n × (o.least ≤ n) × (n ≤ o.most) × (n < 2 ^ 64)
 
--- it is given none, or one of this range
-abbrev pub MayBeGivenIn : (option : Text) → (least most : ℕ) → List Row → Type 0
-MayBeGivenIn option least most rows = (one_of option rows ≡ None) ⊎ IsGivenIn option least most rows
+-- it is given none, or one of its range
+abbrev pub MayBeGivenIn : NumberOption → List Row → Type 0
+MayBeGivenIn o rows = (one_of o.name rows ≡ None) ⊎ IsGivenIn o rows
 
 -- the options of `run` that are wanted are given, and each number is in its range
 pub record CanRun (rows : List Row) : Type 0 where
   pub listen : IsSome (first_of (codes "listen") rows)
   pub spool : IsSome (first_of (codes "spool") rows)
-  pub sessions : MayBeGivenIn (codes "sessions") 1 session_limit rows
-  pub hubs : IsGivenIn (codes "hubs") 1 hub_limit rows
-  pub window : IsGivenIn (codes "window") 0 window_limit rows
-  pub server_timeout : MayBeGivenIn (codes "server-timeout") 1 timeout_limit rows
-  pub client_timeout : MayBeGivenIn (codes "client-timeout") 1 timeout_limit rows
-  pub max_clients : MayBeGivenIn (codes "max-clients") 1 client_limit rows
+  pub sessions : MayBeGivenIn sessions_option rows
+  pub hubs : IsGivenIn hubs_option rows
+  pub window : IsGivenIn window_option rows
+  pub server_timeout : MayBeGivenIn server_timeout_option rows
+  pub client_timeout : MayBeGivenIn client_timeout_option rows
+  pub max_clients : MayBeGivenIn max_clients_option rows
 
 -- clap takes the words, and they name the job's command with the values that the job has
 abbrev pub IsJobOf : List Text → Job → Type 0
 IsJobOf words (Check cert options) = AsksCheck words (option_map (λ name. name.now) cert) options
-IsJobOf words (Legs at) = (faults words ≡ []) × (rows : List Row) × (named words ≡ Some (codes "legs", rows)) × IsNumberOf (codes "at") rows at.0
+IsJobOf words (Legs at) = (faults words ≡ []) × (rows : List Row) × (named words ≡ Some (codes "legs", rows)) × IsNumberOf at_option.name rows at.0
 IsJobOf words (Draw dot) = AsksDraw words dot
 IsJobOf words (Mend patch) = AsksMend words patch
 IsJobOf words (Run options) = AsksRun words (order_of options)

@@ -34,9 +34,6 @@ Where the status is neither 0 nor 3, one line on standard error says why.";
 
 pub(crate) const LEGS_ABOUT: &str = "Shows to which servers a request is sent at once";
 
-pub(crate) const AT: &str = "The moment of the request in seconds, as start_time
-has it, from 0 to 18446744073709551615";
-
 pub(crate) const LEGS_FORM: &str =
     "Standard input has the request in its first line, and behind it the
 configuration as JSON:
@@ -76,17 +73,6 @@ keys and by list numbers from 0; `.` is the whole. The numbers:
    5  unknown pool                     10  mcrouter's, but not read by mcv";
 
 pub(crate) const CHECK_ABOUT: &str = "Decides whether a configuration can lose a delete";
-
-pub(crate) const CERT: &str = "A certificate in place of one that mcv makes";
-
-pub(crate) const EXPLAIN: &str = "The finding in sentences behind its text";
-
-pub(crate) const JSON: &str = "The verdict as JSON, or the fault in its place";
-
-pub(crate) const QUIET: &str = "One line on standard error for a fault, not two";
-
-pub(crate) const WINDOW: &str = "How many seconds may lie between a delete and a
-get, from 0 to 4294967295";
 
 pub(crate) const CHECK_FORM: &str =
     "Standard input has the configuration as JSON; `mcv legs --help` says which route
@@ -178,8 +164,6 @@ A configuration that isn't read is reported as
 
 pub(crate) const DRAW_ABOUT: &str = "Draws a configuration and what is found of it";
 
-pub(crate) const DOT: &str = "As a graph for Graphviz in place of SVG";
-
 pub(crate) const DRAW_FORM: &str =
     "Standard input has the configuration as JSON; `mcv legs --help` says which route
 handles are read. Standard output has a picture of its routes:
@@ -219,8 +203,6 @@ A configuration that isn't read is reported as
 
 pub(crate) const MEND_ABOUT: &str = "Adds the deletes that a configuration lacks";
 
-pub(crate) const PATCH: &str = "Writes the change alone, as a JSON patch (RFC 6902)";
-
 pub(crate) const MEND_FORM: &str =
     "Standard input has the configuration as JSON; `mcv legs --help` says which route
 handles are read. Where it can lose a delete, standard output has it with legs
@@ -252,29 +234,6 @@ one that would be over a limit is reported as
 no change is found as `mcv: no change found`.";
 
 pub(crate) const RUN_ABOUT: &str = "Serves clients by a configuration that can't lose a delete";
-
-pub(crate) const LISTEN: &str = "The address at which clients connect, as HOST:PORT";
-
-pub(crate) const SPOOL: &str = "The file that keeps deletes which wait for a server";
-
-pub(crate) const SESSIONS: &str = "After how many sessions the program ends,
-from 1 to 1000000000; without it, after none";
-
-pub(crate) const HUBS: &str = "How many hubs run side by side,
-from 1 to 8";
-
-pub(crate) const SERVER_TIMEOUT: &str = "How many milliseconds a server may take,
-from 1 to 3600000; without it, any time";
-
-pub(crate) const CLIENT_TIMEOUT: &str = "How many milliseconds a client may send or
-take nothing, from 1 to 3600000; without it, any";
-
-pub(crate) const MAX_CLIENTS: &str = "How many clients are served at once,
-from 1 to 1000000; without it, any number";
-
-pub(crate) const ADMIN: &str = "Where an operator asks over HTTP: GET /metrics,
-GET /health, POST /drain; give an address that no
-other can reach";
 
 pub(crate) const RUN_FORM: &str =
     "Standard input has the configuration as JSON; `mcv legs --help` says which route
@@ -324,8 +283,6 @@ A configuration that isn't read is reported as
 pub(crate) const SPOOL_ABOUT: &str = "Shows the deletes that a spool's file keeps";
 
 pub(crate) const FILE: &str = "The file of the spool";
-
-pub(crate) const ALL: &str = "Deletes that are done, too";
 
 pub(crate) const SPOOL_FORM: &str =
     "Standard output has a line for each record that is pending, in the order of the

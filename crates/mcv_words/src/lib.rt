@@ -4,10 +4,12 @@
 
 mod help;
 mod options;
+mod table;
 mod words;
 
 pub use options::{
     CheckOptions, ClientTimeout, Hubs, InRange, MaxClients, RunOptions, ServerTimeout, Sessions,
     Settings, SpoolOptions, Window,
 };
+pub use table::NumberRow;
 pub use words::{Job, LineFault, read_words};

@@ -1,19 +1,25 @@
-//! What `check` and `run` are asked for. Each number has a type of its own, which keeps it in its range.
+//! What `check` and `run` are asked for. Each number has a type of its own, which keeps it in the range of its option's row.
 
 ghost use Rattle.std.specs.Prelude.{◌≡◌, ◌↔◌, ◌≤◌, ℕ, IfSome, IsSome};
-ghost use Rattle.mcv_words.specs.Ranges.{client_limit, session_limit, timeout_limit, window_limit, hub_limit};
+ghost use Rattle.mcv_words.specs.Table.{NumberOption, client_timeout_option, hubs_option, max_clients_option, option_of, server_timeout_option, sessions_option, window_option};
+
+use crate::table::{
+    CLIENT_TIMEOUT, HUBS, MAX_CLIENTS, NumberRow, SERVER_TIMEOUT, SESSIONS, WINDOW,
+};
 
 /// A number that an option takes.
 pub trait InRange: Drop + Sized {
-    ghost least: { ℕ };
-
-    ghost most: { ℕ };
+    ghost option: { NumberOption };
 
     ghost value: { Self → ℕ };
 
-    /// This number; None where it is out of range.
+    /// The row of the option.
+    fn row() -> NumberRow
+        ensures { option_of result ≡ option };
+
+    /// This number; None where it is out of the option's range.
     fn new(number: u64) -> Option<Self>
-        ensures some { IsSome result ↔ ((least ≤ number) × (number ≤ most)) }
+        ensures some { IsSome result ↔ ((option.least ≤ number) × (number ≤ option.most)) }
         ensures value { IfSome result (λ made. value made ≡ number) };
 }
 
@@ -21,18 +27,20 @@ pub trait InRange: Drop + Sized {
 #[derive(Clone, Copy, Debug, PartialEq, Eq)]
 pub struct Sessions {
     pub count: u64,
-    pub ghost in_range: { (1 ≤ count) × (count ≤ session_limit) },
+    pub ghost in_range: { (sessions_option.least ≤ count) × (count ≤ sessions_option.most) },
 }
 
 impl InRange for Sessions {
-    ghost least = { 1 };
-
-    ghost most = { session_limit };
+    ghost option = { sessions_option };
 
     ghost value = { λ sessions. sessions.count };
 
+    fn row() -> NumberRow {
+        SESSIONS
+    }
+
     fn new(number: u64) -> Option<Sessions> {
-        if number < 1 || number > 1_000_000_000 {
+        if !Self::row().contains(number) {
             return None;
         }
         Some(Sessions { count: number })
@@ -43,18 +51,20 @@ impl InRange for Sessions {
 #[derive(Clone, Copy, Debug, PartialEq, Eq)]
 pub struct Hubs {
     pub count: u64,
-    pub ghost in_range: { (1 ≤ count) × (count ≤ hub_limit) },
+    pub ghost in_range: { (hubs_option.least ≤ count) × (count ≤ hubs_option.most) },
 }
 
 impl InRange for Hubs {
-    ghost least = { 1 };
-
-    ghost most = { hub_limit };
+    ghost option = { hubs_option };
 
     ghost value = { λ hubs. hubs.count };
 
+    fn row() -> NumberRow {
+        HUBS
+    }
+
     fn new(number: u64) -> Option<Hubs> {
-        if number < 1 || number > 8 {
+        if !Self::row().contains(number) {
             return None;
         }
         Some(Hubs { count: number })
@@ -65,18 +75,20 @@ impl InRange for Hubs {
 #[derive(Clone, Copy, Debug, PartialEq, Eq)]
 pub struct Window {
     pub seconds: u64,
-    pub ghost in_range: { seconds ≤ window_limit },
+    pub ghost in_range: { seconds ≤ window_option.most },
 }
 
 impl InRange for Window {
-    ghost least = { 0 };
-
-    ghost most = { window_limit };
+    ghost option = { window_option };
 
     ghost value = { λ window. window.seconds };
 
+    fn row() -> NumberRow {
+        WINDOW
+    }
+
     fn new(number: u64) -> Option<Window> {
-        if number > 4_294_967_295 {
+        if !Self::row().contains(number) {
             return None;
         }
         Some(Window { seconds: number })
@@ -87,18 +99,20 @@ impl InRange for Window {
 #[derive(Clone, Copy, Debug, PartialEq, Eq)]
 pub struct ServerTimeout {
     pub millis: u64,
-    pub ghost in_range: { (1 ≤ millis) × (millis ≤ timeout_limit) },
+    pub ghost in_range: { (server_timeout_option.least ≤ millis) × (millis ≤ server_timeout_option.most) },
 }
 
 impl InRange for ServerTimeout {
-    ghost least = { 1 };
-
-    ghost most = { timeout_limit };
+    ghost option = { server_timeout_option };
 
     ghost value = { λ timeout. timeout.millis };
 
+    fn row() -> NumberRow {
+        SERVER_TIMEOUT
+    }
+
     fn new(number: u64) -> Option<ServerTimeout> {
-        if number < 1 || number > 3_600_000 {
+        if !Self::row().contains(number) {
             return None;
         }
         Some(ServerTimeout { millis: number })
@@ -109,18 +123,20 @@ impl InRange for ServerTimeout {
 #[derive(Clone, Copy, Debug, PartialEq, Eq)]
 pub struct ClientTimeout {
     pub millis: u64,
-    pub ghost in_range: { (1 ≤ millis) × (millis ≤ timeout_limit) },
+    pub ghost in_range: { (client_timeout_option.least ≤ millis) × (millis ≤ client_timeout_option.most) },
 }
 
 impl InRange for ClientTimeout {
-    ghost least = { 1 };
-
-    ghost most = { timeout_limit };
+    ghost option = { client_timeout_option };
 
     ghost value = { λ timeout. timeout.millis };
 
+    fn row() -> NumberRow {
+        CLIENT_TIMEOUT
+    }
+
     fn new(number: u64) -> Option<ClientTimeout> {
-        if number < 1 || number > 3_600_000 {
+        if !Self::row().contains(number) {
             return None;
         }
         Some(ClientTimeout { millis: number })
@@ -131,18 +147,20 @@ impl InRange for ClientTimeout {
 #[derive(Clone, Copy, Debug, PartialEq, Eq)]
 pub struct MaxClients {
     pub count: u64,
-    pub ghost in_range: { (1 ≤ count) × (count ≤ client_limit) },
+    pub ghost in_range: { (max_clients_option.least ≤ count) × (count ≤ max_clients_option.most) },
 }
 
 impl InRange for MaxClients {
-    ghost least = { 1 };
-
-    ghost most = { client_limit };
+    ghost option = { max_clients_option };
 
     ghost value = { λ clients. clients.count };
 
+    fn row() -> NumberRow {
+        MAX_CLIENTS
+    }
+
     fn new(number: u64) -> Option<MaxClients> {
-        if number < 1 || number > 1_000_000 {
+        if !Self::row().contains(number) {
             return None;
         }
         Some(MaxClients { count: number })

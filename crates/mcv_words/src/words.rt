@@ -4,23 +4,24 @@
 ghost use Rattle.std.specs.Prelude.{◌≡◌, codes, false, option_map, IfOk, IfErr, IsOk, IsSome, map};
 ghost use Rattle.clap.specs.Words.{Text, app_of, first_of, found_of, kind_of, rows_of, rule_of};
 ghost use Rattle.clap.specs.declared.builder.command.Command.TheViews.{out-Command as fields_of};
-ghost use Rattle.mcv_words.specs.Ranges.{window_limit};
-ghost use Rattle.mcv_words.specs.Words.{admin_rule, at_rule, cert_rule, check_app, client_timeout_rule, file_rule, flag_rule, draw_app, hubs_rule, legs_app, line_fault_number, listen_rule, max_clients_rule, mcv_app, mend_app, quiet_rule, run_app, server_timeout_rule, sessions_rule, spool_app, spool_rule, window_rule, CanRun, IsCheckOf, IsDrawOf, IsFaultOfKind, IsGivenIn, IsJobOf, IsLineFault, IsMendOf, IsNumberIfGiven, IsRunOf, IsSpoolOf, MayBeGivenIn};
+ghost use Rattle.mcv_words.specs.Table.{window_option};
+ghost use Rattle.mcv_words.specs.Words.{check_app, draw_app, file_rule, legs_app, line_fault_number, mcv_app, mend_app, run_app, spool_app, CanRun, IsCheckOf, IsDrawOf, IsFaultOfKind, IsGivenIn, IsJobOf, IsLineFault, IsMendOf, IsNumberIfGiven, IsRunOf, IsSpoolOf, MayBeGivenIn};
 ghost use Rattle.mcv_words.specs.declared.words.LineFault.TheVariants.{Memory as out_of_memory};
 
 use crate::help::{
-    ABOUT, ADMIN, ALL, AT, CERT, CHECK_ABOUT, CHECK_FORM, CLIENT_TIMEOUT, DOT, DRAW_ABOUT,
-    DRAW_FORM, EXAMPLE, EXPLAIN, FILE, HUBS, JSON, LEGS_ABOUT, LEGS_FORM, LISTEN, MAX_CLIENTS,
-    MEND_ABOUT, MEND_FORM, PATCH, QUIET, RUN_ABOUT, RUN_FORM, SERVER_TIMEOUT, SESSIONS, SPOOL,
-    SPOOL_ABOUT, SPOOL_FORM, WINDOW,
+    ABOUT, CHECK_ABOUT, CHECK_FORM, DRAW_ABOUT, DRAW_FORM, EXAMPLE, FILE, LEGS_ABOUT, LEGS_FORM,
+    MEND_ABOUT, MEND_FORM, RUN_ABOUT, RUN_FORM, SPOOL_ABOUT, SPOOL_FORM,
 };
 use crate::options::{
     CheckOptions, ClientTimeout, Hubs, InRange, MaxClients, RunOptions, ServerTimeout, Sessions,
     Settings, SpoolOptions, Window,
 };
-use clap::builder::ValueParser;
+use crate::table::{
+    ADMIN, ALL, AT, CERT, CHECK, DOT, EXPLAIN, JSON, LISTEN, PATCH, QUIET, RUN, SPOOL, flag,
+    number_option, with_options,
+};
 use clap::error::ErrorKind;
-use clap::{Arg, ArgAction, ArgMatches, Command, Error as ClapError, value_parser};
+use clap::{Arg, ArgMatches, Command, Error as ClapError};
 use mcv_base::Moment;
 use std::alloc::{AllocError, Global};
 use thiserror::Error;
@@ -88,18 +89,6 @@ impl From<AllocError> for LineFault {
     }
 }
 
-fn at_option<'a>(alloc: Global) -> Arg<'a>
-    ensures rule { rule_of result ≡ at_rule }
-    ensures local { result.global ≡ false }
-{
-    Arg::new(alloc, "at")
-        .long("at")
-        .value_name("SECONDS")
-        .value_parser(value_parser!(u64))
-        .default_value("0")
-        .help(AT)
-}
-
 fn legs_command<'a>(alloc: Global) -> Result<Command<'a>, AllocError>
     ensures app { IfOk result (λ c. app_of c ≡ legs_app) }
     ensures local { IfOk result (λ c. (fields_of c).has_globals ≡ false) }
@@ -108,65 +97,21 @@ fn legs_command<'a>(alloc: Global) -> Result<Command<'a>, AllocError>
         .about(LEGS_ABOUT)
         .override_usage("mcv legs [--at SECONDS] < FILE")
         .after_help(LEGS_FORM)
-        .arg(at_option(alloc))
-}
-
-fn cert_option<'a>(alloc: Global) -> Arg<'a>
-    ensures rule { rule_of result ≡ cert_rule }
-    ensures local { result.global ≡ false }
-{
-    Arg::new(alloc, "cert")
-        .long("cert")
-        .value_name("FILE")
-        .help(CERT)
-}
-
-fn window_option<'a>(alloc: Global) -> Arg<'a>
-    ensures rule { rule_of result ≡ window_rule }
-    ensures local { result.global ≡ false }
-{
-    Arg::new(alloc, "window")
-        .long("window")
-        .value_name("SECONDS")
-        .value_parser(ValueParser::unsigned(0, 4_294_967_295))
-        .default_value("0")
-        .help(WINDOW)
-}
-
-/// A flag by its name.
-fn flag<'a>(alloc: Global, name: &'static str, help: &'static str) -> Arg<'a>
-    ensures rule { rule_of result ≡ flag_rule name.now }
-    ensures local { result.global ≡ false }
-{
-    Arg::new(alloc, name)
-        .long(name)
-        .action(ArgAction::SetTrue)
-        .help(help)
-}
-
-fn quiet_flag<'a>(alloc: Global) -> Arg<'a>
-    ensures rule { rule_of result ≡ quiet_rule }
-    ensures local { result.global ≡ false }
-{
-    flag(alloc, "quiet", QUIET).short('q')
+        .arg(number_option(alloc, &AT))
 }
 
 fn check_command<'a>(alloc: Global) -> Result<Command<'a>, AllocError>
     ensures app { IfOk result (λ c. app_of c ≡ check_app) }
     ensures local { IfOk result (λ c. (fields_of c).has_globals ≡ false) }
 {
-    Command::new(alloc, "check")
+    let check = Command::new(alloc, "check")
         .about(CHECK_ABOUT)
         .override_usage(
             "mcv check [--cert FILE] [--window SECONDS] [--explain] [--json]
                  [-q] < FILE",
         )
-        .after_help(CHECK_FORM)
-        .arg(cert_option(alloc))?
-        .arg(window_option(alloc))?
-        .arg(flag(alloc, "explain", EXPLAIN))?
-        .arg(flag(alloc, "json", JSON))?
-        .arg(quiet_flag(alloc))
+        .after_help(CHECK_FORM);
+    with_options(alloc, check, &CHECK)
 }
 
 fn draw_command<'a>(alloc: Global) -> Result<Command<'a>, AllocError>
@@ -177,7 +122,7 @@ fn draw_command<'a>(alloc: Global) -> Result<Command<'a>, AllocError>
         .about(DRAW_ABOUT)
         .override_usage("mcv draw [--dot] < FILE")
         .after_help(DRAW_FORM)
-        .arg(flag(alloc, "dot", DOT))
+        .arg(flag(alloc, &DOT))
 }
 
 fn mend_command<'a>(alloc: Global) -> Result<Command<'a>, AllocError>
@@ -188,114 +133,18 @@ fn mend_command<'a>(alloc: Global) -> Result<Command<'a>, AllocError>
         .about(MEND_ABOUT)
         .override_usage("mcv mend [--patch] < FILE")
         .after_help(MEND_FORM)
-        .arg(flag(alloc, "patch", PATCH))
-}
-
-fn listen_option<'a>(alloc: Global) -> Arg<'a>
-    ensures rule { rule_of result ≡ listen_rule }
-    ensures local { result.global ≡ false }
-{
-    Arg::new(alloc, "listen")
-        .long("listen")
-        .value_name("ADDRESS")
-        .required(true)
-        .help(LISTEN)
-}
-
-fn spool_option<'a>(alloc: Global) -> Arg<'a>
-    ensures rule { rule_of result ≡ spool_rule }
-    ensures local { result.global ≡ false }
-{
-    Arg::new(alloc, "spool")
-        .long("spool")
-        .value_name("FILE")
-        .required(true)
-        .help(SPOOL)
-}
-
-fn sessions_option<'a>(alloc: Global) -> Arg<'a>
-    ensures rule { rule_of result ≡ sessions_rule }
-    ensures local { result.global ≡ false }
-{
-    Arg::new(alloc, "sessions")
-        .long("sessions")
-        .value_name("N")
-        .value_parser(ValueParser::unsigned(1, 1_000_000_000))
-        .help(SESSIONS)
-}
-
-fn hubs_option<'a>(alloc: Global) -> Arg<'a>
-    ensures rule { rule_of result ≡ hubs_rule }
-    ensures local { result.global ≡ false }
-{
-    Arg::new(alloc, "hubs")
-        .long("hubs")
-        .value_name("N")
-        .value_parser(ValueParser::unsigned(1, 8))
-        .default_value("1")
-        .help(HUBS)
-}
-
-fn server_timeout_option<'a>(alloc: Global) -> Arg<'a>
-    ensures rule { rule_of result ≡ server_timeout_rule }
-    ensures local { result.global ≡ false }
-{
-    Arg::new(alloc, "server-timeout")
-        .long("server-timeout")
-        .value_name("MS")
-        .value_parser(ValueParser::unsigned(1, 3_600_000))
-        .help(SERVER_TIMEOUT)
-}
-
-fn client_timeout_option<'a>(alloc: Global) -> Arg<'a>
-    ensures rule { rule_of result ≡ client_timeout_rule }
-    ensures local { result.global ≡ false }
-{
-    Arg::new(alloc, "client-timeout")
-        .long("client-timeout")
-        .value_name("MS")
-        .value_parser(ValueParser::unsigned(1, 3_600_000))
-        .help(CLIENT_TIMEOUT)
-}
-
-fn max_clients_option<'a>(alloc: Global) -> Arg<'a>
-    ensures rule { rule_of result ≡ max_clients_rule }
-    ensures local { result.global ≡ false }
-{
-    Arg::new(alloc, "max-clients")
-        .long("max-clients")
-        .value_name("N")
-        .value_parser(ValueParser::unsigned(1, 1_000_000))
-        .help(MAX_CLIENTS)
-}
-
-fn admin_option<'a>(alloc: Global) -> Arg<'a>
-    ensures rule { rule_of result ≡ admin_rule }
-    ensures local { result.global ≡ false }
-{
-    Arg::new(alloc, "admin")
-        .long("admin")
-        .value_name("ADDRESS")
-        .help(ADMIN)
+        .arg(flag(alloc, &PATCH))
 }
 
 fn run_command<'a>(alloc: Global) -> Result<Command<'a>, AllocError>
     ensures app { IfOk result (λ c. app_of c ≡ run_app) }
     ensures local { IfOk result (λ c. (fields_of c).has_globals ≡ false) }
 {
-    Command::new(alloc, "run")
+    let run = Command::new(alloc, "run")
         .about(RUN_ABOUT)
         .override_usage("mcv run --listen ADDRESS --spool FILE [OPTIONS] < FILE")
-        .after_help(RUN_FORM)
-        .arg(listen_option(alloc))?
-        .arg(spool_option(alloc))?
-        .arg(sessions_option(alloc))?
-        .arg(hubs_option(alloc))?
-        .arg(window_option(alloc))?
-        .arg(server_timeout_option(alloc))?
-        .arg(client_timeout_option(alloc))?
-        .arg(max_clients_option(alloc))?
-        .arg(admin_option(alloc))
+        .after_help(RUN_FORM);
+    with_options(alloc, run, &RUN)
 }
 
 fn file_argument<'a>(alloc: Global) -> Arg<'a>
@@ -317,7 +166,7 @@ fn spool_command<'a>(alloc: Global) -> Result<Command<'a>, AllocError>
         .override_usage("mcv spool FILE [--all]")
         .after_help(SPOOL_FORM)
         .arg(file_argument(alloc))?
-        .arg(flag(alloc, "all", ALL))
+        .arg(flag(alloc, &ALL))
 }
 
 fn command<'a>(alloc: Global) -> Result<Command<'a>, AllocError>
@@ -360,11 +209,11 @@ fn line_fault(alloc: Global, error: &ClapError) -> LineFault
 
 /// The number that clap found for an option; None where it found no value. An error is that the value is no number, or out
 /// of range.
-fn number_of<T: InRange>(found: &ArgMatches<'_>, option: &str) -> Result<Option<T>, LineFault>
-    ensures number { IfOk result (λ number. IsNumberIfGiven option.now (rows_of (found_of found.now)) (option_map T.value number)) }
-    ensures ok { MayBeGivenIn option.now T.least T.most (rows_of (found_of found.now)) → IsOk result }
+fn number_of<T: InRange>(found: &ArgMatches<'_>) -> Result<Option<T>, LineFault>
+    ensures number { IfOk result (λ number. IsNumberIfGiven T.option.name (rows_of (found_of found.now)) (option_map T.value number)) }
+    ensures ok { MayBeGivenIn T.option (rows_of (found_of found.now)) → IsOk result }
 {
-    match found.try_get_one::<u64>(option) {
+    match found.try_get_one::<u64>(T::row().name) {
         Ok(Some(number)) => match T::new(number) {
             Some(number) => Ok(Some(number)),
             None => Err(LineFault::BadLine),
@@ -377,15 +226,15 @@ fn number_of<T: InRange>(found: &ArgMatches<'_>, option: &str) -> Result<Option<
 /// The job of `check`, by what clap found for its options.
 fn check_job<'a>(found: &ArgMatches<'a>) -> Result<Job<'a>, LineFault>
     ensures job { IfOk result (IsCheckOf (rows_of (found_of found.now))) }
-    ensures ok { IsGivenIn (codes "window") 0 window_limit (rows_of (found_of found.now)) → IsOk result }
+    ensures ok { IsGivenIn window_option (rows_of (found_of found.now)) → IsOk result }
 {
-    let cert = found.get_str("cert");
-    let Some(window) = number_of::<Window>(found, "window")? else {
+    let cert = found.get_str(CERT.name);
+    let Some(window) = number_of::<Window>(found)? else {
         return Err(LineFault::BadLine);
     };
-    let explain = found.get_flag("explain");
-    let json = found.get_flag("json");
-    let quiet = found.get_flag("quiet");
+    let explain = found.get_flag(EXPLAIN.name);
+    let json = found.get_flag(JSON.name);
+    let quiet = found.get_flag(QUIET.name);
     Ok(Job::Check {
         cert,
         options: CheckOptions {
@@ -401,7 +250,7 @@ fn check_job<'a>(found: &ArgMatches<'a>) -> Result<Job<'a>, LineFault>
 fn draw_job<'a>(found: &ArgMatches<'a>) -> Job<'a>
     ensures { IsDrawOf (rows_of (found_of found.now)) result }
 {
-    let dot = found.get_flag("dot");
+    let dot = found.get_flag(DOT.name);
     Job::Draw { dot }
 }
 
@@ -409,7 +258,7 @@ fn draw_job<'a>(found: &ArgMatches<'a>) -> Job<'a>
 fn mend_job<'a>(found: &ArgMatches<'a>) -> Job<'a>
     ensures { IsMendOf (rows_of (found_of found.now)) result }
 {
-    let patch = found.get_flag("patch");
+    let patch = found.get_flag(PATCH.name);
     Job::Mend { patch }
 }
 
@@ -418,23 +267,23 @@ fn run_job<'a>(found: &ArgMatches<'a>) -> Result<Job<'a>, LineFault>
     ensures job { IfOk result (IsRunOf (rows_of (found_of found.now))) }
     ensures ok { CanRun (rows_of (found_of found.now)) → IsOk result }
 {
-    let Some(listen) = found.get_str("listen") else {
+    let Some(listen) = found.get_str(LISTEN.name) else {
         return Err(LineFault::BadLine);
     };
-    let Some(spool) = found.get_str("spool") else {
+    let Some(spool) = found.get_str(SPOOL.name) else {
         return Err(LineFault::BadLine);
     };
-    let sessions = number_of::<Sessions>(found, "sessions")?;
-    let Some(hubs) = number_of::<Hubs>(found, "hubs")? else {
+    let sessions = number_of::<Sessions>(found)?;
+    let Some(hubs) = number_of::<Hubs>(found)? else {
         return Err(LineFault::BadLine);
     };
-    let Some(window) = number_of::<Window>(found, "window")? else {
+    let Some(window) = number_of::<Window>(found)? else {
         return Err(LineFault::BadLine);
     };
-    let server_timeout = number_of::<ServerTimeout>(found, "server-timeout")?;
-    let client_timeout = number_of::<ClientTimeout>(found, "client-timeout")?;
-    let max_clients = number_of::<MaxClients>(found, "max-clients")?;
-    let admin = found.get_str("admin");
+    let server_timeout = number_of::<ServerTimeout>(found)?;
+    let client_timeout = number_of::<ClientTimeout>(found)?;
+    let max_clients = number_of::<MaxClients>(found)?;
+    let admin = found.get_str(ADMIN.name);
     Ok(Job::Run(RunOptions {
         listen,
         spool,
@@ -458,7 +307,7 @@ fn spool_job<'a>(found: &ArgMatches<'a>) -> Result<Job<'a>, LineFault>
     let Some(file) = found.get_str("file") else {
         return Err(LineFault::BadLine);
     };
-    let all = found.get_flag("all");
+    let all = found.get_flag(ALL.name);
     Ok(Job::Spool(SpoolOptions { file, all }))
 }
 
@@ -499,7 +348,7 @@ pub fn read_words<'a>(alloc: Global, words: &'a [&'a str]) -> Result<Job<'a>, Li
     let Some(found) = matches.subcommand_matches("legs") else {
         return Err(LineFault::BadLine);
     };
-    let Some(at) = found.get_one::<u64>("at") else {
+    let Some(at) = found.get_one::<u64>(AT.name) else {
         return Err(LineFault::BadLine);
     };
     Ok(Job::Legs { at: Moment(at) })

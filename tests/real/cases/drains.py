@@ -1,4 +1,5 @@
 """What an operator asks over HTTP: health, and an end in order, which loses no delete that was answered."""
+import functools
 import http.client
 import random
 import subprocess
@@ -10,7 +11,9 @@ from cases.stops import CLIENTS, deleting, missing
 from fakes import PERFORM, SILENCE, Fake
 from parts import LIMIT, UNLIMITED, Client, Failed, address_of, case, expect, free_port, one_pool, pending, stored, wait_for
 
-DRAINS = 40
+DRAINS, DRAINS_OF_A_FILE = 200, 5
+# So many deletes at least were answered and aren't performed when a drain is asked for.
+UNDER_WAY = 10
 TEXT = "text/plain; charset=utf-8"
 
 
@@ -181,15 +184,43 @@ def what_isnt_sent_in_time_goes_to_the_spool(machine):
 
 @case()
 def a_drain_ends_where_the_spool_refuses(machine):
-    """What the spool refused was answered by an error, and goes with the process."""
+    """What the spool refused was answered by an error, and goes with the process, which says how many these are."""
     admin, spool = admin_address(), machine.path("mcv.spool")
     mcv = with_room_for_two(machine, spool, admin)
     with mcv.client() as client:
         spool_two(client)
-        client.ask(b"delete c\r\n", FAILED)
+        client.ask(b"delete c\r\ndelete d\r\n", FAILED + FAILED)
     expect(asked(admin, "POST", "/drain?seconds=1"), (200, b"draining\n"))
-    expect(mcv.last_lines(), (b"mcv closed calls 3\n", 0))
+    expect(mcv.last_lines(), (b"mcv closed calls 4\n", 0))
+    expect(mcv.error_text().splitlines()[-1], b"mcv: a drain ended: 2 legs left")
     expect([rest for _, rest in pending(spool)], [b"a", b"b"])
+
+
+def deletes_everywhere(servers):
+    """Gets go on from one server that is away to the next."""
+    names = ["P%d" % n for n in range(len(servers))]
+    children = ["PoolRoute|" + name for name in names]
+    return {"pools": {name: {"servers": [server]} for name, server in zip(names, servers)}, "route": {
+        "type": "OperationSelectorRoute",
+        "operation_policies": {"delete": {"type": "AllSyncRoute", "children": children}},
+        "default_policy": {"type": "FailoverRoute", "children": children},
+    }}
+
+
+@case()
+def the_end_of_a_drain_is_said_behind_many_lines(machine):
+    """Twelve servers are marked at once, so that their second has no place for more lines. None is lost without a count."""
+    admin = admin_address()
+    mcv = machine.mcv(deletes_everywhere(["127.0.0.1:%d" % free_port() for _ in range(12)]), admin=admin, server_timeout=5000)
+    with mcv.client() as client:
+        for _ in range(3):
+            client.ask(b"get a\r\n", FAILED)
+    expect(asked(admin, "POST", "/drain"), (200, b"draining\n"))
+    expect(mcv.last_lines(), (b"mcv closed calls 3\n", 0))
+    lines = mcv.error_text().splitlines()
+    expect(lines[-1], b"mcv: a drain ended")
+    more = [line for line in lines if line.endswith(b" lines more in a second")]
+    expect(len(lines) - len(more) + sum(int(line.split()[1]) for line in more), 14, "lines of twelve marks and a drain")
 
 
 @case()
@@ -207,37 +238,64 @@ def a_leg_under_way_keeps_its_own_time(machine):
     expect([rest for _, rest in pending(spool)], [b"a"])
 
 
-@case(600)
-def forty_drains_lose_no_answered_delete(machine):
-    """Clients under load, deletes that are answered before they are sent, and servers that are slow: what was answered is
-    performed or in the file. Five drains have one file."""
-    seed = random.randrange(1 << 32)
-    chosen, admin, count = random.Random(seed), admin_address(), 0
+def under_way(acknowledged, servers):
+    """How many deletes that were answered aren't performed yet."""
+    return sum(key not in server.performed for server in servers for key in list(acknowledged))
 
+
+def slow_servers(machine, chosen):
+    """Three servers that take two milliseconds for a request, more or less."""
     def mood():
         time.sleep(chosen.uniform(0, 0.004))
         return PERFORM
 
-    servers = [machine.fake(Fake(mood)) for _ in range(3)]
+    return [machine.fake(Fake(mood)) for _ in range(3)]
+
+
+def loaded(mcv, turn, servers, chosen, end):
+    """Deletes of several clients, which this ends at a random moment, once some that were answered are under way: the keys of
+    those that were answered."""
+    acknowledged = []
+    threads = [threading.Thread(target=deleting, args=(mcv, b"%d.%d" % (turn, n), acknowledged, 0.004)) for n in range(CLIENTS)]
+    for thread in threads:
+        thread.start()
+    time.sleep(chosen.uniform(0, 0.05))
+    wait_for(lambda: under_way(acknowledged, servers) >= UNDER_WAY, "deletes are under way")
+    end()
+    for thread in threads:
+        thread.join()
+    return acknowledged
+
+
+def drained(admin, seconds):
+    expect(asked(admin, "POST", "/drain?seconds=%d" % seconds), (200, b"draining\n"))
+
+
+@case()
+def a_kill_in_place_of_a_drain_loses_answered_deletes(machine):
+    """What the drains below are looked through for is seen where it is there."""
+    chosen, spool = random.Random(4), machine.path("mcv.spool")
+    servers = slow_servers(machine, chosen)
+    mcv = machine.mcv(deletes_asynchronously([server.text for server in servers]), spool=spool, server_timeout=5000)
+    every = loaded(mcv, 0, servers, chosen, mcv.kill)
+    expect(list(missing(every, servers, spool)) != [], True, "deletes that are lost")
+
+
+@case(600)
+def two_hundred_drains_lose_no_answered_delete(machine):
+    """Clients under load, deletes that are answered before they are sent, and servers that are slow: what was answered is
+    performed or in the file. At each drain some are under way. Five drains have one file."""
+    seed = random.randrange(1 << 32)
+    chosen, admin = random.Random(seed), admin_address()
+    servers = slow_servers(machine, chosen)
     config = deletes_asynchronously([server.text for server in servers])
     for turn in range(DRAINS):
-        if turn % 5 == 0:
+        if turn % DRAINS_OF_A_FILE == 0:
             every, spool = [], machine.path("mcv.spool.%d" % turn)
         mcv = machine.mcv(config, spool=spool, admin=admin, server_timeout=5000, hubs=1 + turn % 3)
-        acknowledged = []
-        threads = [threading.Thread(target=deleting, args=(mcv, b"%d.%d" % (turn, n), acknowledged)) for n in range(CLIENTS)]
-        for thread in threads:
-            thread.start()
-        wait_for(lambda: acknowledged, "a first delete is acknowledged")
-        time.sleep(chosen.uniform(0, 0.1))
-        expect(asked(admin, "POST", "/drain?seconds=%d" % chosen.choice([0, 1, 2])), (200, b"draining\n"))
-        for thread in threads:
-            thread.join()
+        every += loaded(mcv, turn, servers, chosen, functools.partial(drained, admin, chosen.choice([0, 0, 1])))
         lines, status = mcv.last_lines()
         expect((lines.split(b" ")[:3], status), ([b"mcv", b"closed", b"calls"], 0), "drain %d (seed %d)" % (turn, seed))
-        every += acknowledged
-        count += len(acknowledged)
         lost = list(missing(every, servers, spool))
         if lost:
             raise Failed("after drain %d (seed %d) %d of %d are lost, as %r" % (turn, seed, len(lost), len(every), lost[0]))
-    expect(count > 100, True, "%d deletes" % count)

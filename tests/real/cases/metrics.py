@@ -2,12 +2,13 @@
 import contextlib
 import http.client
 import subprocess
+import threading
 
 from cases.crowds import TOO_MANY
-from cases.drains import admin_address, deletes_asynchronously
-from cases.servers import LIMITED
+from cases.drains import admin_address, deletes_asynchronously, spool_two, with_room_for_two
+from cases.servers import FAILED
 from fakes import DROP, PERFORM, SILENCE, Fake
-from parts import LIMIT, address_of, case, expect, free_port, one_pool, stored, wait_for
+from parts import LIMIT, address_of, case, expect, free_port, index_of, one_pool, stored, wait_for
 
 TYPE = "text/plain; version=0.0.4; charset=utf-8"
 
@@ -71,8 +72,34 @@ def legs_are_those_that_the_servers_saw(machine):
 
 def client_failed(client, key):
     """1, where a store isn't answered by a server."""
-    client.ask(stored(key, b"1"), b"SERVER_ERROR destination failed\r\n")
+    client.ask(stored(key, b"1"), FAILED)
     return 1
+
+
+def waiting(admin, servers):
+    """How many legs wait for each of these servers."""
+    every = shown(admin)
+    return [every['mcv_legs_waiting{server="%s"}' % server.text] for server in servers]
+
+
+@case()
+def legs_that_wait_are_shown(machine):
+    """A server doesn't answer: of 20 deletes one of each hub is under way, and the others wait until its time is over. It answers
+    the next ones."""
+    keys = [b"k%d" % n for n in range(20)]
+    for hubs in (1, 2):
+        mood = [SILENCE]
+        admin, servers = admin_address(), [machine.fake(Fake(lambda: mood[0])), machine.fake(Fake())]
+        config = deletes_asynchronously([server.text for server in servers])
+        mcv = machine.mcv(config, spool=machine.path("spool.%d" % hubs), admin=admin, server_timeout=4000, hubs=hubs)
+        expect(waiting(admin, servers), [0, 0])
+        with mcv.client() as client:
+            client.ask(b"".join(b"delete " + key + b"\r\n" for key in keys), b"NOT_FOUND\r\n" * len(keys))
+        left = len(keys) - len({index_of(key, hubs) for key in keys})
+        expect(left, 20 - hubs)
+        wait_for(lambda: waiting(admin, servers) == [left, 0], "%d legs wait" % left)
+        mood[0] = PERFORM
+        wait_for(lambda: waiting(admin, servers) == [0, 0], "no leg waits")
 
 
 @case()
@@ -82,7 +109,7 @@ def a_server_that_is_marked_is_shown(machine):
     mcv = machine.mcv(one_pool([server]), admin=admin)
     with mcv.client() as client:
         for n in range(3):
-            client.ask(stored(b"k%d" % n, b"1"), b"SERVER_ERROR destination failed\r\n")
+            client.ask(stored(b"k%d" % n, b"1"), FAILED)
         wait_for(lambda: legs(admin, server)[2] == 1, "the server is marked")
         machine.memcached(port=port)
 
@@ -176,6 +203,43 @@ def requests_without_a_place_are_refused_and_said(machine):
         expect(mcv.error_text(), b"mcv: too many legs wait: 1 refused\n")
 
 
+def asked_until_busy(client, keys):
+    """Asks for these keys, 400 times at most, until the answer is that there is no place."""
+    for _ in range(400):
+        client.send(b"get " + b" ".join(keys) + b"\r\n")
+        line = client.line()
+        if line != b"END\r\n":
+            return line
+    return None
+
+
+@case(240)
+def a_chapter_that_is_full_is_said_and_that_the_next_begins(machine):
+    """A get whose server doesn't answer keeps the chapter from its end, until its 1,000,000 entries are used, three for each get."""
+    go = threading.Event()
+
+    def mood():
+        go.wait(240)
+        return PERFORM
+
+    late, other = machine.fake(Fake(mood)), machine.servers(1)[0]
+    keys = [key for key in (b"k%d" % n for n in range(3000)) if index_of(key, 2) == 1][:1000]
+    held = next(key for key in (b"h%d" % n for n in range(100)) if index_of(key, 2) == 0)
+    mcv = machine.mcv(one_pool([late.text, other]), server_timeout=200000)
+    with mcv.client() as client, mcv.client() as first:
+        first.send(b"get " + held + b"\r\n")
+        wait_for(lambda: late.requests, "the server is asked")
+        expect(asked_until_busy(client, keys), b"SERVER_ERROR busy\r\n")
+        expect(mcv.error_text(), b"mcv: the chapter is full: 1 refused\n")
+        client.ask(b"get a b c\r\n" * 2, b"SERVER_ERROR busy\r\n" * 2)
+        expect(mcv.error_text(), b"mcv: the chapter is full: 1 refused\n", "it is said once")
+        go.set()
+        expect(first.line(), b"END\r\n")
+        for _ in range(2):
+            client.ask(b"get " + keys[0] + b"\r\n", b"END\r\n")
+        expect(mcv.error_text(), b"mcv: the chapter is full: 1 refused\nmcv: the chapter begins again\n")
+
+
 @case()
 def clients_are_counted(machine):
     admin = admin_address()
@@ -199,12 +263,11 @@ def clients_are_counted(machine):
 
 @case()
 def a_spool_that_refuses_is_shown(machine):
-    admin, spool = admin_address(), machine.path("mcv.spool")
-    mcv = machine.mcv(one_pool(["127.0.0.1:%d" % free_port()]), before=LIMITED, spool=spool, admin=admin)
+    admin = admin_address()
+    mcv = with_room_for_two(machine, machine.path("mcv.spool"), admin)
     with mcv.client() as client:
-        for key in [b"a", b"b", b"c"]:
-            client.send(b"delete " + key + b"\r\n")
-            client.line()
+        spool_two(client)
+        client.ask(b"delete c\r\n", FAILED)
         wait_for(lambda: shown(admin)["mcv_spool_refusing"] == 1, "the spool is said to refuse")
         machine.start(["prlimit", "--pid", str(mcv.process.pid), "--fsize=unlimited:"]).wait()
         wait_for(lambda: shown(admin)["mcv_spool_refusing"] == 0, "the spool takes records again")

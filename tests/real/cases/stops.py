@@ -26,9 +26,9 @@ class Moods:
         return self.chosen.choices([PERFORM, REFUSE, DROP, PERFORM_AND_DROP], [85, 5, 5, 5])[0]
 
 
-def deleting(mcv, name, acknowledged):
-    """Deletes one key after the other, some of them in a row without waiting, and keeps those that were acknowledged, until
-    the connection ends."""
+def deleting(mcv, name, acknowledged, pause=0):
+    """Deletes one key after the other, some of them in a row without waiting, with so many seconds between the rows, and keeps
+    those that were acknowledged, until the connection ends."""
     number = 0
     try:
         with mcv.client() as client:
@@ -44,6 +44,7 @@ def deleting(mcv, name, acknowledged):
                         raise Failed("a delete was answered %r" % line)
                     elif not line.endswith(b"\n"):
                         return
+                time.sleep(pause)
     except OSError:
         pass
 

@@ -1,5 +1,5 @@
 use Rattle.std.specs.Arc.{arc_value}
-use Rattle.mcv_core.specs.Opening.{opened_view}
+use Rattle.mcv_core.specs.Opening.{opened_within}
 use Rattle.mcv_hubs.specs.Blanks.{name_at}
 use Rattle.mcv_hubs.specs.Choice.{records_at}
 use Rattle.mcv_fleet.proofs.fleet.start.Given as goal
@@ -13,4 +13,4 @@ ghosts-serve_hubs-N-Names g a = record { name_of = name_at a.taken; parts_of = a
 
 -- and each hub is opened with the records of its keys
 abbrev pub ghosts-serve_hubs-F-HubNames : goal.ghosts-serve_hubs-F-HubNames
-ghosts-serve_hubs-F-HubNames g a = record { opened_of = λ hub. opened_view (arc_value a.accepted) (records_at a.choice hub a.store.records.items) }
+ghosts-serve_hubs-F-HubNames g a = record { opened_of = λ hub. opened_within 1 (arc_value a.accepted) (records_at a.choice hub a.store.records.items) }

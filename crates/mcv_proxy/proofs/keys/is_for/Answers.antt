@@ -13,7 +13,7 @@ returns-in-Ok c =
     let op = c.in-Some.op in
     let word = c.in-Some.word.now in
     let route = c.in-Ok.routed.route in
-    let rest = c.in-Ok.routed.rest in
+    let rest = c.in-Ok.routed.rest.now in
     let e : word_at request c.args.key ≡ Some (op, word) = cc (c.in-Some.ensures, c.in-Some.op-is, c.in-Some.word-is) in (
       λ b. is_for_asked r request c.args.key t op word route rest e c.in-Ok.ensures.routed (c.has_asked.ensures.0 b),
       λ f. c.has_asked.ensures.1 (asked_at c.key_words_have_one_reading.ensures.one r request c.args.key t op word route rest e c.in-Ok.ensures.routed f),

@@ -1,14 +1,12 @@
-use Rattle.std.proofs.Common.{◌≡◌, ◌∙◌, inl, inr, List, Option, false, sym, subst, true, ap, map, refl, codes, true≢false}
-use Rattle.std.specs.Prelude.{IsSome}
+use Rattle.std.proofs.Common.{◌≡◌, ◌∙◌, ◌<◌, ◌^◌, ℕ, inl, inr, List, sym, subst, true, ap, map, refl, codes, true≢false}
 use Rattle.clap.specs.Words.{App, Text, HasKind, fault_of, found_of, is_simple, is_simple_and_free, kind_of, rows_of, subcommand_of}
 use Rattle.std.specs.Str.Parse.{ParsesUnsigned, ExplainsUnsignedError, HasUnsignedDigitsIfOk}
 use Rattle.clap.proofs.WalkLemmas.{one_text-rows}
 use Rattle.clap.proofs.OnLiterals.{clap_on_literals}
-use Rattle.clap.proofs.ValueTestLemmas.{accepts-Accepts}
-use Rattle.mcv_words.specs.Ranges.{window_limit}
+use Rattle.mcv_words.specs.Table.{at_option}
 use Rattle.mcv_words.specs.Words.{mcv_app}
-use Rattle.mcv_words.proofs.OptionValues.{at_parser, check_values, legs_values, run_values, spool_values}
-use Rattle.mcv_words.proofs.Matches.{can_run, check_asked, draw_asked, fault_of_kind, given_in, named_rows, name_of_rows, no_number, number_of, run_asked, spool_asked, mend_asked}
+use Rattle.mcv_words.proofs.OptionValues.{check_values, legs_values, run_values, spool_values}
+use Rattle.mcv_words.proofs.Matches.{check_asked, draw_asked, fault_of_kind, named_rows, name_of_rows, no_number, number_of, run_asked, spool_asked, mend_asked}
 use Rattle.mcv_words.proofs.CommandIsNamed.{taken}
 use Rattle.mcv_words.proofs.words.read_words.Goals as goal
 
@@ -34,7 +32,7 @@ returns-in_default-check_job-clause-fault c =
     let none = sym (ap (λ (a : App). fault_of a words) c.in_ok-command.ensures) ∙ c.in-Ok.ensures.kinds (ap is_simple_and_free c.in_ok-command.ensures ∙ free) in
     let found = found_of c.in-Some.found.now in
     let check = sym held ∙ named_rows c.in-Ok.matches (codes "check") (rows_of found) (c.in-Some.ensures.found.0 refl) c.in-Some.ensures.rows in
-    absurd (true≢false (sym (c.in_default-check_job.ensures.ok (given_in (codes "window") 0 window_limit (rows_of found) (check_values words (rows_of found) none check)))))
+    absurd (true≢false (sym (c.in_default-check_job.ensures.ok (check_values words (rows_of found) none check))))
 
 pub returns-in-Some-clause-job : goal.returns-in-Some-clause-job
 returns-in-Some-clause-job c =
@@ -61,7 +59,7 @@ returns-in_default-run_job-clause-fault c =
     let none = sym (ap (λ (a : App). fault_of a words) c.in_ok-command.ensures) ∙ c.in-Ok.ensures.kinds (ap is_simple_and_free c.in_ok-command.ensures ∙ free) in
     let found = found_of c.in-Some-subcommand_matches-2.found.now in
     let run = sym held ∙ named_rows c.in-Ok.matches (codes "run") (rows_of found) (c.in-Some-subcommand_matches-2.ensures.found.0 refl) c.in-Some-subcommand_matches-2.ensures.rows in
-    absurd (true≢false (sym (c.in_default-run_job.ensures.ok (can_run (rows_of found) (run_values words (rows_of found) none run)))))
+    absurd (true≢false (sym (c.in_default-run_job.ensures.ok (run_values words (rows_of found) none run))))
 
 pub returns-in-Some-subcommand_matches-2-clause-job : goal.returns-in-Some-subcommand_matches-2-clause-job
 returns-in-Some-subcommand_matches-2-clause-job c =
@@ -79,8 +77,7 @@ returns-in_default-spool_job-clause-fault c =
     let none = sym (ap (λ (a : App). fault_of a words) c.in_ok-command.ensures) ∙ c.in-Ok.ensures.kinds (ap is_simple_and_free c.in_ok-command.ensures ∙ free) in
     let found = found_of c.in-Some-subcommand_matches-3.found.now in
     let spool = sym held ∙ named_rows c.in-Ok.matches (codes "spool") (rows_of found) (c.in-Some-subcommand_matches-3.ensures.found.0 refl) c.in-Some-subcommand_matches-3.ensures.rows in
-    let file = spool_values words (rows_of found) none spool in
-    absurd (true≢false (sym (c.in_default-spool_job.ensures.ok (subst (λ (o : Option Text). IsSome o) (sym file.1) refl))))
+    absurd (true≢false (sym (c.in_default-spool_job.ensures.ok (spool_values words (rows_of found) none spool))))
 
 pub returns-in-Some-subcommand_matches-3-clause-job : goal.returns-in-Some-subcommand_matches-3-clause-job
 returns-in-Some-subcommand_matches-3-clause-job c =
@@ -122,9 +119,9 @@ returns-in_default-get_one-clause-fault c =
     let found = found_of c.in-Some-subcommand_matches-5.found.now in
     let legs = sym held ∙ named_rows c.in-Ok.matches (codes "legs") (rows_of found) (c.in-Some-subcommand_matches-5.ensures.found.0 refl) c.in-Some-subcommand_matches-5.ensures.rows in
     let at = legs_values words (rows_of found) none legs in
-    let takes = accepts-Accepts false at_parser at.0 at.2 in
-    absurd (no_number (λ bs r. ParsesUnsigned 64 10 bs r × ExplainsUnsignedError 10 bs r × HasUnsignedDigitsIfOk bs r) at.0 (λ t x h. h.0) takes.0 takes.1
-    (c.in_default-get_one.ensures.value at.0 (one_text-rows found (codes "at") ∙ at.1)))
+    let number = at.1 in
+    absurd (no_number (λ bs r. ParsesUnsigned 64 10 bs r × ExplainsUnsignedError 10 bs r × HasUnsignedDigitsIfOk bs r) number.0 (λ t x h. h.0) number.2
+    (subst (λ (n : ℕ). n < 2 ^ 64) number.3 at.4) (c.in_default-get_one.ensures.value number.0 (one_text-rows found at_option.name ∙ number.1)))
 
 pub returns-clause-job : goal.returns-clause-job
 returns-clause-job c =
@@ -133,10 +130,10 @@ returns-clause-job c =
     let none = sym (ap (λ (a : App). fault_of a words) c.in_ok-command.ensures) ∙ c.in-Ok.ensures.kinds (ap is_simple_and_free c.in_ok-command.ensures ∙ free) in
     let found = found_of c.in-Some-subcommand_matches-5.found.now in
     let legs = sym held ∙ named_rows c.in-Ok.matches (codes "legs") (rows_of found) (c.in-Some-subcommand_matches-5.ensures.found.0 refl) c.in-Some-subcommand_matches-5.ensures.rows in
-    let at = legs_values words (rows_of found) none legs in (
+    let number = (legs_values words (rows_of found) none legs).1 in (
       none,
       rows_of found,
       legs,
-      number_of (λ bs r. ParsesUnsigned 64 10 bs r × ExplainsUnsignedError 10 bs r × HasUnsignedDigitsIfOk bs r) (codes "at") (rows_of found) at.0 c.in-Some-get_one.at (λ t x h. h.0) at.1
-          (c.in-Some-get_one.ensures.value at.0 (one_text-rows found (codes "at") ∙ at.1)),
+      number_of (λ bs r. ParsesUnsigned 64 10 bs r × ExplainsUnsignedError 10 bs r × HasUnsignedDigitsIfOk bs r) at_option.name (rows_of found) number.0 c.in-Some-get_one.at (λ t x h. h.0) number.1
+          (c.in-Some-get_one.ensures.value number.0 (one_text-rows found at_option.name ∙ number.1)),
     )

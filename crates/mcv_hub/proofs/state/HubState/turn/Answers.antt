@@ -80,7 +80,7 @@ invariant_of-self-2 g c =
     let either : (c.turned_places-self-inside.result ≡ s.places) ⊎ (may_write w ≤ c.turned_places-self-inside.result) =
     elim c.turned_places-self-inside.ensures.either [ inl e ↦ inl e | inr e ↦ inr (omega (arith, e, entries, opens, breaks)) ] in (
       turn_holds v w s.history.entries.items s.chapter s.begun.total s.taken.total s.begun_before s.taken_before (vec_len s.history.entries) (vec_capacity s.history.entries) s.places s.breaks c.self.invariant.0 _ c.in-Some.chapter
-          c.turned_places-self-inside.result _ _ _ _ h.event.does.routes h.event.quiet (omega (arith, c.in-Some.ensures)) (omega (arith, c.in-Some.ensures, c.self.invariant.0.0.chapter_is, ap (λ z. z.chapter) h.event.view))
+          c.turned_places-self-inside.result _ _ _ _ h.event.does.routes (ap (λ z. z.limit) h.event.view) h.event.quiet (omega (arith, c.in-Some.ensures)) (omega (arith, c.in-Some.ensures, c.self.invariant.0.0.chapter_is, ap (λ z. z.chapter) h.event.view))
           (c.totals-begun.ensures.begun ∙ sym (ap (λ (z : HubView). z.begun) c.self.view_is)) (c.totals-begun.ensures.taken ∙ sym (ap (λ (z : HubView). z.taken) c.self.view_is)) (omega (arith, c.if-begun-gt-MOST_COUNTED.false)) (omega (arith, c.if-taken-gt-MOST_COUNTED.false))
           (turn_spends v w h.event.view) c.turned_places-self-inside.ensures.lesser either c.renew-past.ensures.items c.renew-past.ensures.len c.renew-past.ensures.capacity,
       c.self.invariant.1,

@@ -1,0 +1,6 @@
+pub mod KeysOfHubs
+pub mod OneKeys
+pub mod EightDesks
+pub mod AskedAtHubs
+pub mod MixedReplies
+pub mod MixedRequests

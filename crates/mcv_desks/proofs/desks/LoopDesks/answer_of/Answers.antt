@@ -1,0 +1,9 @@
+use Rattle.std.proofs.Common.{ℕ, subst}
+use Rattle.std.specs.Arc.{arc_value}
+use Rattle.mcv_session.specs.Desk.{answer_value}
+use Rattle.mcv_text.specs.Request.{request_value}
+use Rattle.mcv_desks.specs.Desks.{AsksHubs}
+use Rattle.mcv_desks.proofs.desks.LoopDesks.answer_of.Goals as goal
+
+pub returns-in-Whole-clause-answer : goal.returns-in-Whole-clause-answer
+returns-in-Whole-clause-answer g c = subst (λ (hubs : ℕ). AsksHubs g.F.HubNames.opened_of hubs (request_value (arc_value c.in-Whole.answer.request)) (answer_value c.in-Whole.answer.outcome)) c.loop-answer.invariant c.in-Whole.ensures.answer

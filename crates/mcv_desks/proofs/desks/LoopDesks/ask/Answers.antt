@@ -1,0 +1,18 @@
+use Rattle.std.proofs.Common.{arith, subst}
+use Rattle.mcv_base.specs.declared.request.Request.{Request}
+use Rattle.mcv_text.specs.Request.{request_value}
+use Rattle.mcv_desks.specs.Asked.{mixed_at, questions_at}
+use Rattle.mcv_desks.specs.Desks.{HaveHub}
+use Rattle.mcv_desks.proofs.AskedAtHubs.{desks_asked}
+use Rattle.mcv_desks.proofs.desks.LoopDesks.ask.Goals as goal
+
+pub ask_at-requires : goal.ask_at-requires
+ask_at-requires g c = let lower = c.in-Some.ensures.there in let most = c.one_hub.ensures.most in omega (arith, lower, most)
+
+pub invariant_of-self : goal.invariant_of-self
+invariant_of-self g c =
+    let d = c.self.inside in
+    let lower = c.in-Some.ensures.there in
+    let most = c.one_hub.ensures.most in
+    let have = subst (λ (r : Request). HaveHub d.choice.now (request_value r) c.in-Some.hub) c.deref.ensures c.in-Some.ensures.some in
+    desks_asked d.choice.now d.next (mixed_at d.mixed) (questions_at d.desks) (questions_at c.ask_at.new.self) c.in-Some.hub (omega (arith, lower, most)) c.ask_at.result _ _ (lower, have) c.ask_at.ensures c.self.invariant

@@ -1,0 +1,4 @@
+pub mod OneKey
+pub mod Desks
+pub mod Mixed
+pub mod Asked

@@ -1,0 +1,337 @@
+//! The desks of a loop at all hubs.
+
+ghost use Rattle.std.specs.Prelude.{◌≡◌, ◌<◌, ℕ, IfOk, IfSome};
+ghost use Rattle.std.specs.Arc.{arc_value};
+ghost use Rattle.mcv_desks.specs.Asked.{AreSameMixed, AreSomeLeft, IfWhole, IsAnswerOf, IsNextKey, joined_of, mixed_at};
+ghost use Rattle.mcv_desks.specs.Desks.{AsksHubs};
+ghost use Rattle.mcv_desks.specs.Mixed.{IsKeyAnswer};
+ghost use Rattle.mcv_session.specs.Desk.{answer_value};
+ghost use Rattle.mcv_text.specs.Request.{request_value};
+
+use crate::hub_desks::HubDesks;
+use crate::mixed::Mixed;
+use crate::one_hub::one_hub;
+use mcv_base::{Part, Request, ServerId};
+use mcv_hub::{Pass, Receipt};
+use mcv_hubs::{HubChoice, HubNames, Hubs, MOST_HUBS, Names, Seats};
+use mcv_session::DeskFault;
+use mcv_turn::{Answer, Asker, Came, Gives};
+use slab::Slab;
+use std::alloc::{AllocError, Global};
+use std::marker::Model;
+use std::sync::{Arc, Wait};
+
+/// More answers than come.
+const TURNS: u64 = u64::MAX;
+
+/// A desk at each hub, and the requests whose keys have several hubs. Clauses see how many hubs have keys.
+#[derive(Drop)]
+pub struct LoopDesks<'a, F: HubNames, G: Names> {
+    alloc: Global,
+    choice: &'a HubChoice,
+    mixed: Slab<Mixed<F>>,
+    /// The serial number of the next one of these.
+    next: u64,
+    desks: HubDesks<'a, F, G>,
+}
+
+impl<'a, F: HubNames, G: Names> Model for LoopDesks<'a, F, G> {
+    ghost use Rattle.std.specs.Prelude.{ℕ};
+    ghost use Rattle.std.specs.Coded.{coded_ℕ};
+    ghost use Rattle.mcv_desks.specs.Asked.{AreDesks, mixed_at, questions_at};
+
+    ghost Value = { ℕ };
+
+    ghost coded = { coded_ℕ };
+
+    ghost view = { λ d. d.choice.now };
+
+    ghost invariant = { λ d. AreDesks d.choice.now d.next (mixed_at d.mixed) (questions_at d.desks) };
+}
+
+/// The next key that is to be asked of a request of several hubs.
+#[derive(Drop)]
+struct NextKey {
+    hub: usize,
+    /// The serial number of the request.
+    serial: u64,
+    key: usize,
+    /// What is asked for it.
+    alone: Arc<Request>,
+}
+
+/// What comes of the next answer of one desk.
+#[derive(Drop)]
+enum Joined {
+    /// There was none.
+    Nothing,
+    /// It is for one key of a request, and others are missing.
+    Reply,
+    /// A request of a session is answered.
+    Whole(Answer),
+}
+
+/// What comes of an answer for one key, where this answers the request, if it does.
+fn joined_of(whole: Option<Answer>) -> Joined
+    ensures { result ≡ joined_of whole }
+{
+    match whole {
+        Some(answer) => Joined::Whole(answer),
+        None => Joined::Reply,
+    }
+}
+
+/// The next key that is to be asked of the request of this number; None where there is none.
+fn next_key<F: HubNames>(
+    choice: &HubChoice,
+    mixed: &mut Slab<Mixed<F>>,
+    number: usize,
+) -> Option<NextKey>
+    ensures same { AreSameMixed mixed.old mixed.new }
+    ensures key { IfSome result (λ k. IsNextKey choice.now (mixed_at mixed.old number) k) }
+    ensures there { IfSome result (λ k. k.hub < 8) }
+{
+    let Some(one) = mixed.get_mut(number) else {
+        return None;
+    };
+    let Some(alone) = one.next_key() else {
+        return None;
+    };
+    Some(NextKey {
+        hub: choice.hub_of_key(one.request(), alone.key),
+        serial: one.serial(),
+        key: alone.key,
+        alone: alone.request,
+    })
+}
+
+/// For want of memory a key of the request of this number isn't asked.
+fn refuse_at<F: HubNames>(mixed: &mut Slab<Mixed<F>>, number: usize)
+    ensures { AreSameMixed mixed.old mixed.new }
+{
+    let Some(one) = mixed.get_mut(number) else {
+        return;
+    };
+    one.refuse(DeskFault::Memory);
+}
+
+/// A key of the request of this number is answered so, if that has this serial number.
+fn put_at<F: HubNames>(
+    mixed: &mut Slab<Mixed<F>>,
+    number: usize,
+    serial: u64,
+    key: usize,
+    outcome: Result<Vec<Part>, DeskFault>,
+)
+    requires { IfSome (mixed_at mixed.old number) (λ q. q.serial ≡ serial → IsKeyAnswer F.opened_of q key (answer_value outcome)) }
+    ensures { AreSameMixed mixed.old mixed.new }
+{
+    let Some(one) = mixed.get_mut(number) else {
+        return;
+    };
+    if one.serial() != serial {
+        return;
+    }
+    one.put(key, outcome);
+}
+
+/// Takes the request of this number away, if it is done: its answer.
+fn take_done<F: HubNames>(mixed: &mut Slab<Mixed<F>>, number: usize) -> Option<Answer>
+    ensures answer { IfSome result (λ a. IsAnswerOf F.opened_of (mixed_at mixed.old number) a.asker (request_value (arc_value a.request)) (answer_value a.outcome)) }
+    ensures left { AreSomeLeft (mixed_at mixed.old) (mixed_at mixed.new) }
+{
+    let Some(one) = mixed.get(number) else {
+        return None;
+    };
+    if !one.is_done() {
+        return None;
+    }
+    let Some(done) = mixed.try_remove(number) else {
+        return None;
+    };
+    Some(done.into_answer())
+}
+
+impl<'a, F: HubNames, G: Names> LoopDesks<'a, F, G> {
+    /// Desks that were asked nothing. An error is that memory ran out.
+    pub fn new(
+        alloc: Global,
+        hubs: &'a Hubs<F, G>,
+        seats: Seats<F, G>,
+    ) -> Result<LoopDesks<'a, F, G>, AllocError>
+        ensures { IfOk result (λ d. d ≡ hubs.now.choice) }
+    {
+        let desks = HubDesks::new(alloc, hubs, seats)?;
+        let mixed = Slab::new(alloc);
+        Ok(LoopDesks {
+            alloc,
+            choice: &hubs.choice,
+            mixed,
+            next: 0,
+            desks,
+        })
+    }
+
+    /// Takes a request of a session: the next turns begin calls for its keys at their hubs. An error is that memory ran out, or that
+    /// 2^64 - 1 requests of several hubs were asked, and nothing was asked then.
+    pub fn ask(&mut self, session: u64, request: Arc<Request>) -> Result<(), AllocError>
+        ensures { self.new ≡ self.old }
+    {
+        match one_hub(self.choice, &request) {
+            Some(hub) => self.desks.ask_at(hub, Asker::Session(session), request),
+            None => self.ask_mixed(session, request),
+        }
+    }
+
+    /// Takes a request whose keys have several hubs.
+    fn ask_mixed(&mut self, session: u64, request: Arc<Request>) -> Result<(), AllocError>
+        ensures { self.new ≡ self.old }
+    {
+        let Some(next) = self.next.checked_add(1) else {
+            return Err(AllocError);
+        };
+        let hubs = self.choice.hubs();
+        let mixed = Mixed::new(self.alloc, self.next, session, hubs, request)?;
+        let number = self.mixed.insert(mixed)?;
+        self.next = next;
+        self.ask_keys(number);
+        // Where there was no memory to ask the first key, no answer will come.
+        match self.take_done(number) {
+            Some(_) => Err(AllocError),
+            None => Ok(()),
+        }
+    }
+
+    /// Asks further keys of a request of several hubs, each alone at its hub.
+    fn ask_keys(&mut self, number: usize)
+        ensures { self.new ≡ self.old }
+    {
+        for _key in 0..TURNS {
+            if !self.ask_key(number) {
+                return;
+            }
+        }
+    }
+
+    /// Asks the next key of a request of several hubs alone at its hub. Whether a further one may be asked.
+    fn ask_key(&mut self, number: usize) -> bool
+        ensures { self.new ≡ self.old }
+    {
+        let Some(next) = next_key(self.choice, &mut self.mixed, number) else {
+            return false;
+        };
+        let asker = Asker::Key {
+            request: number,
+            serial: next.serial,
+            key: next.key,
+        };
+        match self.desks.ask_at(next.hub, asker, next.alone) {
+            Ok(()) => true,
+            Err(_) => {
+                refuse_at(&mut self.mixed, number);
+                false
+            }
+        }
+    }
+
+    /// The next answer to a request of a session, from replies of the hubs of its keys, in the order of the keys; None where none is
+    /// there.
+    pub fn answer(&mut self) -> Option<Answer>
+        ensures same { self.new ≡ self.old }
+        ensures asker { IfSome result (λ a. (session : ℕ) × (a.asker ≡ Asker.Session session)) }
+        ensures answer { IfSome result (λ a. AsksHubs F.opened_of self.old (request_value (arc_value a.request)) (answer_value a.outcome)) }
+    {
+        for hub in 0..MOST_HUBS {
+            if let Some(answer) = self.answer_of(hub) {
+                return Some(answer);
+            }
+        }
+        None
+    }
+
+    /// The next answer to a request of a session that the desk at the hub of this number gives.
+    fn answer_of(&mut self, hub: usize) -> Option<Answer>
+        requires { hub < 8 }
+        ensures same { self.new ≡ self.old }
+        ensures asker { IfSome result (λ a. (session : ℕ) × (a.asker ≡ Asker.Session session)) }
+        ensures answer { IfSome result (λ a. AsksHubs F.opened_of self.old (request_value (arc_value a.request)) (answer_value a.outcome)) }
+    {
+        for _answer in 0..TURNS {
+            match self.next_of(hub) {
+                Joined::Nothing => return None,
+                Joined::Reply => {}
+                Joined::Whole(answer) => return Some(answer),
+            }
+        }
+        None
+    }
+
+    /// Takes the next answer of the desk at the hub of this number.
+    fn next_of(&mut self, hub: usize) -> Joined
+        requires { hub < 8 }
+        ensures same { self.new ≡ self.old }
+        ensures asker { IfWhole result (λ a. (session : ℕ) × (a.asker ≡ Asker.Session session)) }
+        ensures answer { IfWhole result (λ a. AsksHubs F.opened_of self.old (request_value (arc_value a.request)) (answer_value a.outcome)) }
+    {
+        let Some(answer) = self.desks.answer_at(hub) else {
+            return Joined::Nothing;
+        };
+        match answer.asker {
+            Asker::Session(_) => Joined::Whole(answer),
+            Asker::Key {
+                request,
+                serial,
+                key,
+            } => {
+                put_at(&mut self.mixed, request, serial, key, answer.outcome);
+                self.ask_keys(request);
+                joined_of(self.take_done(request))
+            }
+        }
+    }
+
+    /// Takes the request of several hubs of this number away, if it is done: its answer.
+    fn take_done(&mut self, number: usize) -> Option<Answer>
+        ensures same { self.new ≡ self.old }
+        ensures asker { IfSome result (λ a. (session : ℕ) × (a.asker ≡ Asker.Session session)) }
+        ensures answer { IfSome result (λ a. AsksHubs F.opened_of self.old (request_value (arc_value a.request)) (answer_value a.outcome)) }
+    {
+        take_done(&mut self.mixed, number)
+    }
+
+    /// One turn at the hub of this number, under its lock.
+    pub fn turn<R: Wait>(
+        &mut self,
+        rt: &R,
+        hubs: &Hubs<F, G>,
+        pass: &mut Pass,
+        hub: usize,
+        came: Came,
+        gives: &mut Gives,
+    )
+        ensures { self.new ≡ self.old }
+    {
+        self.desks.turn(rt, hubs, pass, hub, came, gives);
+    }
+
+    /// Whether requests were asked at the hub of this number since its last turn.
+    pub fn is_asked(&self, hub: usize) -> bool {
+        self.desks.is_asked(hub)
+    }
+
+    /// Whether requests wait to begin at the hub of this number.
+    pub fn waits(&self, hub: usize) -> bool {
+        self.desks.waits(hub)
+    }
+
+    /// Whether the server was marked in the last turn at the hub of this number.
+    pub fn is_marked(&self, hub: usize, server: ServerId) -> bool {
+        self.desks.is_marked(hub, server)
+    }
+
+    /// The seats, and the receipts that were kept. An error is that there was no memory for all receipts.
+    pub fn into_parts(self) -> (Seats<F, G>, Result<Vec<Receipt>, AllocError>) {
+        let LoopDesks { desks, .. } = self;
+        desks.into_parts()
+    }
+}

@@ -1,0 +1,3 @@
+pub mod Took
+pub mod Repeat
+pub mod Lost

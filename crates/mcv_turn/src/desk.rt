@@ -1,0 +1,345 @@
+//! The desk of a loop at one hub.
+
+ghost use Rattle.std.specs.Prelude.{◌≡◌, ◌||◌, ℕ, [], None, IfNone, IfOk, IfSome, OnErr, OnOk, not};
+ghost use Rattle.std.specs.Arc.{arc_value};
+ghost use Rattle.mcv_hub.specs.Gate.{IsGate, is_closed};
+ghost use Rattle.mcv_hub.specs.declared.gate.Gate.{Gate as HubGate};
+ghost use Rattle.mcv_session.specs.Desk.{answer_value};
+ghost use Rattle.mcv_text.specs.Request.{request_value};
+ghost use Rattle.mcv_turn.specs.Answers.{IsAnswer};
+ghost use Rattle.mcv_turn.specs.OpenRequests.{AreSameOpen, Closes, Opens, open_at};
+ghost use Rattle.mcv_turn.specs.Runs.{IsTurn, Runs, SendsMore};
+
+use crate::answer::{Answer, Asker};
+use crate::came::{Came, Gives};
+use crate::hub_routes::HubRoutes;
+use crate::kept::Kept;
+use crate::notes::Notes;
+use crate::question::Question;
+use crate::questions::{awaits_at, begin_at, look_at_all, next_done, take_at};
+use crate::servers::Servers;
+use crate::spooling::texts_of;
+use mcv_base::{CallId, Request, ServerId};
+use mcv_core::Dispatcher;
+use mcv_hub::{Gate, Guard, Hub, HubLedger, Past, Receipt, Seat};
+use slab::Slab;
+use std::alloc::{AllocError, Global};
+use std::collections::{HashMap, VecDeque};
+use std::sync::Arc;
+use std::sync::ledger::Ledger;
+
+/// More turns than come: of the servers under one hold of the lock, and of one server's legs.
+const TURNS: u64 = u64::MAX;
+
+/// The desk of a loop at one hub: it is asked requests, which its turns begin, and answers them once they are done. Clauses see
+/// which requests are open, and who asked each (`open_at` of its questions): `ask` adds one, `answer` takes the one away that it
+/// answers, and `turn` keeps all.
+#[derive(Drop)]
+pub struct LoopDesk<'a, B: HubLedger, T: Ledger> {
+    alloc: Global,
+    routes: HubRoutes<'a, B>,
+    seat: Seat<B, T>,
+    kept: Kept,
+    questions: Slab<Question<B>>,
+    /// Questions for whose keys calls are to be begun, in this order.
+    entering: VecDeque<usize>,
+    /// Questions that are done, in this order.
+    done: VecDeque<usize>,
+    notes: Notes,
+    /// Requests were asked since the last turn.
+    is_asked: bool,
+}
+
+/// Makes room for one question more, and for a call that it awaits.
+fn make_room(
+    awaited: &mut HashMap<u64, usize>,
+    entering: &mut VecDeque<usize>,
+) -> Result<(), AllocError> {
+    awaited.reserve(1)?;
+    entering.reserve(1)
+}
+
+impl<'a, B: HubLedger, T: Ledger> LoopDesk<'a, B, T> {
+    /// A desk over a hub that was asked nothing.
+    pub fn new(
+        alloc: Global,
+        hub: &'a Hub<B, T>,
+        seat: Seat<B, T>,
+    ) -> Result<LoopDesk<'a, B, T>, AllocError>
+        ensures { IfOk result (λ d. (number : ℕ) → open_at d.questions number ≡ None) }
+    {
+        let routes = HubRoutes::of(hub);
+        let texts = texts_of(alloc, routes.get())?;
+        let servers = Servers::new(alloc, routes.get().servers().len())?;
+        let questions = Slab::new(alloc);
+        Ok(LoopDesk {
+            alloc,
+            routes,
+            seat,
+            kept: Kept::new(alloc),
+            questions,
+            entering: VecDeque::new(alloc),
+            done: VecDeque::new(alloc),
+            notes: Notes::new(alloc, texts, servers),
+            is_asked: false,
+        })
+    }
+
+    /// Takes a request: the next turns begin calls for its keys, and it is open until it is answered. An error is that memory ran
+    /// out, and changes nothing.
+    pub fn ask(&mut self, asker: Asker, request: Arc<Request>) -> Result<(), AllocError>
+        ensures asked { OnOk result (Opens self.old.questions self.new.questions asker (request_value (arc_value request))) }
+        ensures err { OnErr result (AreSameOpen self.old.questions self.new.questions) }
+    {
+        let question = Question::new(self.alloc, asker, request)?;
+        make_room(&mut self.notes.awaited, &mut self.entering)?;
+        let number = self.questions.insert(question)?;
+        self.is_asked = true;
+        self.notes.overlooks |= self.entering.push_back(number).is_err();
+        Ok(())
+    }
+
+    /// The answer to the next open request that is done, which is open no more; None where none is done.
+    pub fn answer(&mut self) -> Option<Answer>
+        ensures answer { IfSome result (λ a. IsAnswer B.opened (request_value (arc_value a.request)) (answer_value a.outcome)) }
+        ensures closed { IfSome result (λ a. Closes self.old.questions self.new.questions a.asker (request_value (arc_value a.request))) }
+        ensures none { IfNone result (AreSameOpen self.old.questions self.new.questions) }
+    {
+        let Some(number) = next_done(&mut self.done, &self.questions) else {
+            return None;
+        };
+        let Some(question) = self.questions.try_remove(number) else {
+            return None;
+        };
+        Some(question.into_answer(self.routes.get()))
+    }
+
+    /// How many requests are open: asked, and not answered yet.
+    pub fn open(&self) -> usize {
+        self.questions.len()
+    }
+
+    /// Whether requests were asked since the last turn.
+    pub fn is_asked(&self) -> bool {
+        self.is_asked
+    }
+
+    /// Whether requests wait to begin.
+    pub fn waits(&self) -> bool {
+        !self.entering.is_empty()
+    }
+
+    /// Whether the server was marked in the last turn.
+    pub fn is_marked(&self, server: ServerId) -> bool {
+        self.notes.servers.is_marked(server)
+    }
+
+    /// The seat, and the receipts that were kept.
+    pub fn into_parts(self) -> (Seat<B, T>, Vec<Receipt>) {
+        let LoopDesk { seat, kept, .. } = self;
+        (seat, kept.receipts)
+    }
+
+    /// One turn under the hub's lock: later calls have the era of the moment; what came is reported, in its order; requests begin,
+    /// where the chapter lets them; legs come in flight, until none waits or as many are in flight as may be; and the replies that
+    /// are there are taken. The same requests are open as before.
+    pub fn turn(&mut self, guard: &mut Guard<'_, B, T>, came: Came, gives: &mut Gives)
+        ensures turn { IsTurn guard.old guard.new came.arrivals.items gives.old.flights.items gives.new.flights.items }
+        ensures same { AreSameOpen self.old.questions self.new.questions }
+    {
+        let (may_store, waited) = (came.may_store, came.waited);
+        self.is_asked = false;
+        self.note_all(guard, came, &mut gives.performed);
+        self.go_round(guard, may_store, waited, gives);
+    }
+
+    /// Reports what came.
+    fn note_all(&mut self, guard: &mut Guard<'_, B, T>, came: Came, performed: &mut Vec<u64>)
+        ensures run { Runs guard.old came.arrivals.items [] guard.new }
+        ensures same { AreSameOpen self.old.questions self.new.questions }
+    {
+        let Came {
+            moment,
+            arrivals,
+            answering,
+            stored,
+            replays,
+            ..
+        } = came;
+        // A moment before the hub's leaves its era as it is.
+        let _ = guard.clock(moment);
+        self.notes.unmark_all(guard, answering.as_slice());
+        self.notes.report_all(guard, arrivals, performed);
+        self.notes.settle(guard, stored);
+        self.notes.note_replays(replays);
+        self.take_all(guard);
+    }
+
+    /// Requests begin and legs come in flight, until there is nothing to be done before something comes.
+    fn go_round(
+        &mut self,
+        guard: &mut Guard<'_, B, T>,
+        may_store: bool,
+        waited: bool,
+        gives: &mut Gives,
+    )
+        ensures sends { SendsMore guard.old guard.new gives.old.flights.items gives.new.flights.items }
+        ensures same { AreSameOpen self.old.questions self.new.questions }
+    {
+        for _round in 0..TURNS {
+            if self.go_on(guard, may_store, waited, gives) {
+                return;
+            }
+        }
+    }
+
+    /// Requests begin, and legs come in flight. Whether nothing is to be done then before something comes.
+    fn go_on(
+        &mut self,
+        guard: &mut Guard<'_, B, T>,
+        may_store: bool,
+        waited: bool,
+        gives: &mut Gives,
+    ) -> bool
+        ensures sends { SendsMore guard.old guard.new gives.old.flights.items gives.new.flights.items }
+        ensures same { AreSameOpen self.old.questions self.new.questions }
+    {
+        let was_at_rest = guard.core().is_at_rest();
+        let is_open = self.open_gate(guard, waited, &mut gives.past);
+        self.enter(guard, is_open);
+        self.notes.send_all(guard, &mut gives.flights);
+        self.notes.hold(guard, may_store, &mut gives.held);
+        self.take_all(guard);
+        self.is_over(guard.core(), is_open, was_at_rest)
+    }
+
+    /// Whether nothing is to be done before something comes: no request waits to begin, or they may not, and what runs will end, or
+    /// nothing ran as the gate was looked at.
+    fn is_over(&self, core: &Dispatcher, is_open: bool, was_at_rest: bool) -> bool {
+        self.entering.is_empty() || !is_open && (was_at_rest || !core.is_at_rest())
+    }
+
+    /// Whether calls may begin: unless the next chapter is due and can't begin yet. Where it can it begins, and what is left of the old
+    /// one is given out.
+    fn open_gate(&self, guard: &mut Guard<'_, B, T>, waited: bool, past: &mut Option<Past>) -> bool
+        ensures { (gate : HubGate) × IsGate guard.old gate guard.new × (result ≡ (not (is_closed gate) || waited)) }
+    {
+        match guard.gate(self.alloc) {
+            Gate::Open => true,
+            Gate::Turned(old) => {
+                *past = Some(old);
+                true
+            }
+            Gate::Closed => waited,
+        }
+    }
+
+    /// Begins calls for the keys of questions that enter, where they may.
+    fn enter(&mut self, guard: &mut Guard<'_, B, T>, is_open: bool)
+        ensures run { Runs guard.old [] [] guard.new }
+        ensures same { AreSameOpen self.old.questions self.new.questions }
+    {
+        if !is_open {
+            return;
+        }
+        for _question in 0..self.entering.len() {
+            let Some(number) = self.entering.pop_front() else {
+                break;
+            };
+            self.begin(guard, number);
+        }
+    }
+
+    /// Begins calls for keys of a question.
+    fn begin(&mut self, guard: &mut Guard<'_, B, T>, number: usize)
+        ensures run { Runs guard.old [] [] guard.new }
+        ensures same { AreSameOpen self.old.questions self.new.questions }
+    {
+        begin_at(
+            self.alloc,
+            guard,
+            &mut self.seat,
+            &mut self.questions,
+            number,
+        );
+        self.note_begun(number);
+    }
+
+    /// Notes a question for whose keys calls were begun.
+    fn note_begun(&mut self, number: usize)
+        ensures { self.new.questions ≡ self.old.questions }
+    {
+        if let Some(call) = awaits_at(&self.questions, number) {
+            self.notes.await_reply(call, number);
+        }
+        self.notes.note_ready(number);
+    }
+
+    /// Takes the replies that are there.
+    fn take_all(&mut self, guard: &mut Guard<'_, B, T>)
+        ensures run { Runs guard.old [] [] guard.new }
+        ensures same { AreSameOpen self.old.questions self.new.questions }
+    {
+        self.look_where_overlooked();
+        for _question in 0..self.notes.ready.len() {
+            let Some(number) = self.notes.ready.pop() else {
+                return;
+            };
+            self.take(guard, number);
+        }
+    }
+
+    /// Takes the replies to a question that are there.
+    fn take(&mut self, guard: &mut Guard<'_, B, T>, number: usize)
+        ensures run { Runs guard.old [] [] guard.new }
+        ensures same { AreSameOpen self.old.questions self.new.questions }
+    {
+        let before = awaits_at(&self.questions, number);
+        let (seat, kept) = (&mut self.seat, &mut self.kept);
+        let has_memory = take_at(guard, seat, kept, &mut self.questions, number);
+        self.note_taken(number, before, has_memory);
+    }
+
+    /// Notes a question of which replies were taken where it belongs, unless it awaits the same reply as before.
+    fn note_taken(&mut self, number: usize, before: Option<CallId>, has_memory: bool)
+        ensures { self.new.questions ≡ self.old.questions }
+    {
+        if !has_memory {
+            self.notes.overlooks = true;
+        }
+        let Some(question) = self.questions.get(number) else {
+            return;
+        };
+        if let Some(call) = before {
+            if question.awaits() == before {
+                return;
+            }
+            let _ = self.notes.awaited.remove(&call.0);
+        }
+        let noted = if question.is_done() {
+            self.done.push_back(number).is_ok()
+        } else if question.wants_calls() {
+            self.entering.push_back(number).is_ok()
+        } else {
+            match question.awaits() {
+                Some(call) => self.notes.awaited.insert(call.0, number).is_ok(),
+                None => true,
+            }
+        };
+        if !noted {
+            self.notes.overlooks = true;
+        }
+    }
+
+    /// Where a question isn't noted where it should be, notes each where it belongs.
+    fn look_where_overlooked(&mut self)
+        ensures { self.new.questions ≡ self.old.questions }
+    {
+        if !self.notes.overlooks {
+            return;
+        }
+        let (entering, done) = (&mut self.entering, &mut self.done);
+        let noted = look_at_all(&self.questions, entering, &mut self.notes.ready, done);
+        self.notes.overlooks = !noted;
+    }
+}
