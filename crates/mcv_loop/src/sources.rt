@@ -4,7 +4,7 @@ ghost use Rattle.std.specs.Prelude.{◌≤◌, length};
 ghost use Rattle.mcv_loop.specs.Took.{IsWithin};
 
 use mcv_base::{Moment, ServerId};
-use mcv_hub::Pass;
+use mcv_hub::{Pass, Past};
 use mcv_turn::{HeldLeg, StoredLeg};
 use std::time::{Duration, Instant};
 use thiserror::Error;
@@ -88,6 +88,9 @@ pub trait Sources: Drop {
 
     /// The record of this number is done: its leg was performed.
     fn finish(&mut self, pass: &Pass, number: u64);
+
+    /// What is left of an old chapter is to be dropped, which takes a while where it is much.
+    fn discard(&mut self, pass: &Pass, past: Past);
 
     /// Seconds since 1970.
     fn moment(&mut self) -> Moment;

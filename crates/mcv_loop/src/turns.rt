@@ -103,19 +103,23 @@ impl<'a, F: HubNames, G: Names, S: Sources> Loop<'a, F, G, S> {
         }
     }
 
-    /// Puts legs into their connections, in their order, and hands out the record that is to be written.
+    /// Puts legs into their connections, in their order, and hands out the record that is to be written and what is left of an old
+    /// chapter.
     pub(crate) fn dispatch(&mut self, hub: usize, gives: Gives) {
         let Gives {
             flights,
             held,
             performed,
-            past: _,
+            past,
         } = gives;
         for flight in flights {
             self.send(hub, flight, false);
         }
         for number in performed {
             self.sources.finish(&self.pass, number);
+        }
+        if let Some(past) = past {
+            self.sources.discard(&self.pass, past);
         }
         let Some(held) = held else {
             return;

@@ -6,7 +6,7 @@ ghost use Rattle.mcv_loop.specs.Took.{IsWithin};
 use crate::disk::MemoryDisk;
 use crate::server::Server;
 use mcv_base::{Moment, ServerId};
-use mcv_hub::Pass;
+use mcv_hub::{Pass, Past};
 use mcv_loop::{Ready, Source, SourceFault, Sources, Took};
 use mcv_spool::Spool;
 use mcv_turn::{HeldLeg, StoredLeg};
@@ -297,6 +297,10 @@ impl Sources for Memory {
         if self.spool.done(number).is_ok() {
             self.finished = self.finished.saturating_add(1);
         }
+    }
+
+    fn discard(&mut self, _pass: &Pass, past: Past) {
+        drop(past);
     }
 
     fn moment(&mut self) -> Moment {

@@ -5,7 +5,7 @@ ghost use Rattle.mcv_loop.specs.Took.{IsWithin};
 
 use crate::spooler::Mailbox;
 use mcv_base::{Moment, ServerId};
-use mcv_hub::Pass;
+use mcv_hub::{Pass, Past};
 use mcv_loop::{Ready, Source, SourceFault, Sources, Took};
 use mcv_turn::HeldLeg;
 use mio::event::Event;
@@ -349,6 +349,10 @@ impl<R: Net + Clock + Wait + Copy + Drop> Sources for PollSources<R> {
 
     fn finish(&mut self, _pass: &Pass, number: u64) {
         self.mailbox.finish(&self.rt, number);
+    }
+
+    fn discard(&mut self, _pass: &Pass, past: Past) {
+        self.mailbox.discard(&self.rt, past);
     }
 
     fn moment(&mut self) -> Moment {

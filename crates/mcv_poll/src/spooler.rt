@@ -1,5 +1,6 @@
 //! The thread of the spool.
 
+use mcv_hub::Past;
 use mcv_loop::Ready;
 use mcv_spool::{Disk, Spool};
 use mcv_turn::{HeldLeg, StoredLeg};
@@ -14,6 +15,8 @@ enum Task {
     Write(usize, HeldLeg),
     /// Mark the record of this number as done.
     Finish(u64),
+    /// Drop what is left of an old chapter.
+    Discard(Past),
     /// End.
     End,
 }
@@ -25,6 +28,8 @@ struct Letters {
     held: Vec<(usize, HeldLeg)>,
     /// The numbers of records that are done.
     performed: Vec<u64>,
+    /// What is left of old chapters.
+    past: Vec<Past>,
     /// What the spool answered. There is room for all answers that are owed.
     stored: Vec<(usize, StoredLeg)>,
     /// How many records were sent that aren't answered.
@@ -48,6 +53,7 @@ impl Mailbox {
             letters: Mutex::new(Letters {
                 held: Vec::new(alloc),
                 performed: Vec::new(alloc),
+                past: Vec::new(alloc),
                 stored: Vec::new(alloc),
                 owed: 0,
                 ends: false,
@@ -75,6 +81,13 @@ impl Mailbox {
         self.bell.notify_one();
     }
 
+    /// What is left of an old chapter is to be dropped. Without memory to keep it in mind it is dropped at once.
+    pub(crate) fn discard<R: Wait>(&self, rt: &R, past: Past) {
+        let refused = self.letters.lock(rt).past.push(past);
+        self.bell.notify_one();
+        drop(refused);
+    }
+
     /// Puts what the spool has answered behind `ready`. Without memory for that all of it stays.
     pub(crate) fn take_answers<R: Wait>(
         &self,
@@ -98,7 +111,7 @@ impl Mailbox {
         self.bell.notify_one();
     }
 
-    /// What is to be done next, once there is something: records that are to be written come first.
+    /// What is to be done next, once there is something: records that are to be written come first, and old chapters last.
     fn next<R: Wait>(&self, rt: &R) -> Task {
         let mut letters = self.letters.lock(rt);
         for _turn in rt.forever() {
@@ -107,6 +120,9 @@ impl Mailbox {
             }
             if let Some(number) = letters.performed.pop() {
                 return Task::Finish(number);
+            }
+            if let Some(past) = letters.past.pop() {
+                return Task::Discard(past);
             }
             if letters.ends {
                 return Task::End;
@@ -125,7 +141,7 @@ impl Mailbox {
     }
 }
 
-/// Writes records, and marks those as done whose legs were performed, until it is to end. Where the spool refuses a record it is opened
+/// Writes records, marks those as done whose legs were performed, and drops what is left of old chapters, until it is to end. Where the spool refuses a record it is opened
 /// again if it has to be.
 pub fn serve_spool<D: Disk, R: Wait>(rt: &R, spool: &mut Spool<D>, mailbox: &Mailbox) {
     for _task in rt.forever() {
@@ -141,6 +157,7 @@ pub fn serve_spool<D: Disk, R: Wait>(rt: &R, spool: &mut Spool<D>, mailbox: &Mai
             Task::Finish(number) => {
                 let _ = spool.done(number);
             }
+            Task::Discard(past) => drop(past),
             Task::End => return,
         }
     }
