@@ -19,18 +19,19 @@
 #include <time.h>
 #include <unistd.h>
 
-enum { PLACES = 16, ROOM = 1 << 16, MOST = 6000000 };
+enum { PLACES = 16, LARGEST = 60000, MOST = 6000000, MOST_CLIENTS = 20000 };
 enum kind { GET, SET, DELETE };
 
-struct link { int socket; int open; size_t have; char bytes[ROOM]; };
-struct client { enum kind kind; int waits; uint64_t begun; struct link spread[PLACES], fan[PLACES]; };
+struct link { int socket; int open; size_t have; char *bytes; };
+struct client { enum kind kind; int waits; uint64_t begun; struct link *spread, *fan; };
 
 static struct sockaddr_in spread[PLACES], fan[PLACES];
 static int spreads, fans, keys, size, set_share, delete_share;
 static long most, begun, done, errors;
 static uint64_t end_of_time, state = 88172645463325252ull;
 static uint32_t *times;
-static char value[ROOM];
+static size_t room;
+static char value[LARGEST + 1];
 
 static void fail(const char *what) { perror(what); exit(1); }
 
@@ -60,10 +61,14 @@ static int addresses(char *list, struct sockaddr_in *to) {
     return count;
 }
 
+/* It is broken off at its end, so that no port waits for the next run. */
 static void connected(struct link *link, const struct sockaddr_in *to) {
     int yes = 1;
+    struct linger none = {.l_onoff = 1, .l_linger = 0};
     link->socket = socket(AF_INET, SOCK_STREAM, 0);
-    link->open = 0, link->have = 0;
+    link->open = 0, link->have = 0, link->bytes = calloc(room, 1);
+    if (!link->bytes) fail("calloc");
+    setsockopt(link->socket, SOL_SOCKET, SO_LINGER, &none, sizeof none);
     if (link->socket < 0 || connect(link->socket, (const struct sockaddr *)to, sizeof *to)) fail("connect");
     setsockopt(link->socket, IPPROTO_TCP, TCP_NODELAY, &yes, sizeof yes);
 }
@@ -81,7 +86,7 @@ static unsigned place_of(const char *key) {
 }
 
 static void ask(struct client *client, enum kind kind, uint64_t number) {
-    char key[32], text[ROOM + 64];
+    char key[32], text[LARGEST + 64];
     int count;
     snprintf(key, sizeof key, "key-%08llu", (unsigned long long)number);
     client->kind = kind, client->begun = now(), client->waits = 0, begun++;
@@ -117,7 +122,7 @@ static void note(struct client *client, const struct link *link) {
 }
 
 static void read_more(struct client *client, struct link *link) {
-    ssize_t got = recv(link->socket, link->bytes + link->have, ROOM - link->have, 0);
+    ssize_t got = recv(link->socket, link->bytes + link->have, room - link->have, 0);
     if (got <= 0) fail("recv");
     link->have += (size_t)got;
     if (!link->open || !whole(client, link)) return;
@@ -161,12 +166,20 @@ int main(int count, char **words) {
     long wanted = atol(words[2]);
     keys = atoi(words[4]), size = atoi(words[5]), set_share = atoi(words[6]), delete_share = atoi(words[7]);
     spreads = addresses(words[8], spread), fans = addresses(words[9], fan);
-    if (clients < 1 || clients > 1000 || size < 1 || size > 60000 || wanted > MOST || keys < 1 || !spreads) return 1;
+    if (clients < 1 || clients > MOST_CLIENTS || size < 1 || size > LARGEST || wanted > MOST || keys < 1 || !spreads) return 1;
     struct client *all = calloc((size_t)clients, sizeof *all);
     times = calloc(MOST, sizeof *times);
     if (!all || !times) fail("calloc");
-    memset(value, 'x', sizeof value);
+    memset(value, 'x', LARGEST);
+    room = (size_t)size + 128;
+    struct rlimit files;
+    if (getrlimit(RLIMIT_NOFILE, &files)) fail("getrlimit");
+    files.rlim_cur = files.rlim_max;
+    if (setrlimit(RLIMIT_NOFILE, &files)) fail("setrlimit");
+    struct link *links = calloc((size_t)clients * (size_t)(spreads + fans), sizeof *links);
+    if (!links) fail("calloc");
     for (int c = 0; c < clients; c++) {
+        all[c].spread = links + (size_t)c * (size_t)(spreads + fans), all[c].fan = all[c].spread + spreads;
         for (int k = 0; k < spreads; k++) connected(&all[c].spread[k], &spread[k]), watch(poll, (uint64_t)c, 0, k, &all[c].spread[k]);
         for (int k = 0; k < fans; k++) connected(&all[c].fan[k], &fan[k]), watch(poll, (uint64_t)c, 1, k, &all[c].fan[k]);
     }

@@ -15,7 +15,6 @@ LINES = {
     b"decr": (b"NOT_FOUND",),
 }
 MOST_OF_A_NUMBER = (1 << 64) - 1
-END = re.compile(rb" *END *\r?\n")
 
 
 def line_of(text):
@@ -31,7 +30,7 @@ def number_up_to(most, digits):
 
 
 def value_of(operation, key, text):
-    """What a client is answered by a value, or None."""
+    """What a client is answered by a value in front, or None."""
     line = line_of(text)
     words = line.split(b" ") if line is not None else []
     words = [word for word in words if word]
@@ -43,19 +42,17 @@ def value_of(operation, key, text):
     flags, size, *cas = (b"%d" % int(word) for word in words[2:])
     begin = text.find(b"\n") + 1
     value, behind = text[begin : begin + int(size)], text[begin + int(size) :]
-    end = behind[2:]
-    if len(value) != int(size) or behind[:2] != b"\r\n" or not END.fullmatch(end) or line_of(end) is None:
+    end = line_of(behind[2:])
+    if len(value) != int(size) or behind[:2] != b"\r\n" or end is None or end.strip(b" ") != b"END":
         return None
     return b" ".join([b"VALUE", key, flags, size, *cas]) + b"\r\n" + value + b"\r\nEND\r\n"
 
 
 def answer_to(operation, key, reply):
-    """What a client is answered where a server's bytes are a reply; None where they aren't."""
+    """What a client is answered where a server's bytes begin with a reply, whatever is behind that; None where they don't."""
     line = line_of(reply)
     if line is None:
         return None
-    if len(reply) > reply.find(b"\n") + 1:
-        return value_of(operation, key, reply) if operation in (b"get", b"gets") else None
     word = line.strip(b" ")
     if word in LINES[operation]:
         return word + b"\r\n"
@@ -63,7 +60,7 @@ def answer_to(operation, key, reply):
         return b"%d\r\n" % int(word)
     if word == b"ERROR" or re.match(rb" *(CLIENT_ERROR|SERVER_ERROR)( |\Z)", line):
         return line + b"\r\n"
-    return None
+    return value_of(operation, key, reply) if operation in (b"get", b"gets") else None
 
 
 ANSWERS = re.compile(

@@ -8,7 +8,8 @@ class Listening:
 
     def __init__(self, host="127.0.0.1"):
         self.listener = socket.create_server((host, 0), backlog=64)
-        self.text = "%s:%d" % self.listener.getsockname()[:2]
+        self.port = self.listener.getsockname()[1]
+        self.text = "%s:%d" % (host, self.port)
         threading.Thread(target=self.accept, daemon=True).start()
 
     def accept(self):

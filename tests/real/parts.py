@@ -5,6 +5,7 @@ import os
 import random
 import signal
 import socket
+import struct
 import subprocess
 import tempfile
 import time
@@ -127,6 +128,10 @@ class Client:
             pieces.append(b"<reset>")
         return b"".join(pieces)
 
+    def close_with_reset(self):
+        self.socket.setsockopt(socket.SOL_SOCKET, socket.SO_LINGER, struct.pack("ii", 1, 0))
+        self.socket.close()
+
     def ask(self, sent, wanted):
         """Sends bytes, and expects these as the answer."""
         self.send(sent)
@@ -164,6 +169,16 @@ class Mcv:
         """How many bytes of memory the program has."""
         with open("/proc/%d/status" % self.process.pid) as status:
             return next(int(line.split()[1]) * 1024 for line in status if line.startswith("VmRSS:"))
+
+    def seconds(self):
+        """How many seconds of a processor the program has had."""
+        with open("/proc/%d/stat" % self.process.pid) as stat:
+            words = stat.read().rpartition(")")[2].split()
+        return (int(words[11]) + int(words[12])) / os.sysconf("SC_CLK_TCK")
+
+    def files(self):
+        """How many files and connections it has open."""
+        return len(os.listdir("/proc/%d/fd" % self.process.pid))
 
     def kill(self):
         self.process.kill()

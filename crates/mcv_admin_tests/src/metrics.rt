@@ -8,7 +8,7 @@ use std::alloc::Global;
 use std::test::Fail;
 
 /// What a reader of the page on the format would write by hand.
-const WANTED: &str = "# HELP mcv_calls_total Calls that were answered, by operation.
+const WANTED: &str = "# HELP mcv_calls_total Calls that clients asked for, by operation.
 # TYPE mcv_calls_total counter
 mcv_calls_total{operation=\"get\"} 6
 mcv_calls_total{operation=\"delete\"} 2

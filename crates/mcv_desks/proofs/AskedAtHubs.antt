@@ -96,7 +96,7 @@ if_same f g P (inr gone) h = subst (λ (o : Option MixedRequest). IfSome o P) (s
 
 module _ (hubs next : ℕ) (old new : ℕ → Option MixedRequest) (left : AreSomeLeft old new) where
   still_asked : (hub : ℕ) (asker : Asker) (request : RequestValue) → IsAskedOf hubs hub next old asker request → IsAskedOf hubs hub next new asker request
-  still_asked hub (Session session) request h = h
+  still_asked hub (Session number) request h = h
   still_asked hub (Key number serial key) request h = (h.0, if_same (old number) (new number) (λ q. q.serial ≡ serial → IsKeyAlone q key request × IsHubOf hubs q.asked key hub) (left number) h.1)
 
   still_known : AreKnown hubs next old → AreKnown hubs next new
@@ -119,7 +119,7 @@ module _ (hubs next more : ℕ) (old new : ℕ → Option MixedRequest) (q : Mix
       ]
 
   asked_before : (hub : ℕ) (asker : Asker) (request : RequestValue) → IsAskedOf hubs hub next old asker request → IsAskedOf hubs hub more new asker request
-  asked_before hub (Session session) request h = h
+  asked_before hub (Session number) request h = h
   asked_before hub (Key number serial key) request h = (omega (arith, later, h.0), before_it number serial (λ r. IsKeyAlone r key request × IsHubOf hubs r.asked key hub) h.0 h.1)
 
   known_too : AreKnown hubs next old → AreKnown hubs more new
@@ -193,8 +193,8 @@ module _ (opened_of : ℕ → CoreView) (hubs hub next : ℕ) (mixed : ℕ → O
   key_is_answered number serial key request answer known asked is = answer_to_key serial key request answer (mixed number) (known number) asked.1 is
 
   -- what is asked whole is answered by its hub
-  pub whole_is_answered : (session : ℕ) (request : RequestValue) (answer : Result (List ReplyValue) DeskFault) → IsAskedOf hubs hub next mixed (Session session) request → IsAnswer (opened_of hub) request answer → AsksHubs opened_of hubs request answer
-  whole_is_answered session request answer asked is = asked_one_hub opened_of hubs hub request asked.0 asked.1 answer is
+  pub whole_is_answered : (number : ℕ) (request : RequestValue) (answer : Result (List ReplyValue) DeskFault) → IsAskedOf hubs hub next mixed (Session number) request → IsAnswer (opened_of hub) request answer → AsksHubs opened_of hubs request answer
+  whole_is_answered number request answer asked is = asked_one_hub opened_of hubs hub request asked.0 asked.1 answer is
 
   -- what is answered key by key is answered by the hubs
   pub keys_are_answered : (number : ℕ) (asker : Asker) (request : RequestValue) (answer : Result (List ReplyValue) DeskFault) → AreKnown hubs next mixed → IsAnswerOf opened_of (mixed number) asker request answer → AsksHubs opened_of hubs request answer

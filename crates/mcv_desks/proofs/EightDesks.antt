@@ -1,6 +1,6 @@
 -- The desks at eight hubs, of which one changes.
 use Rattle.slab.specs.Slab.{Slab}
-use Rattle.std.proofs.Common.{◌≡◌, ◌∙◌, ◌<◌, ℕ, zero, suc, None, arith, refl, subst, sym}
+use Rattle.std.proofs.Common.{◌≡◌, ◌∙◌, ◌<◌, ◌≤◌, ℕ, zero, suc, None, ap, arith, refl, subst, sym}
 use Rattle.mcv_turn.specs.OpenRequests.{AreSameOpen, open_at}
 use Rattle.mcv_turn.specs.Question.{QuestionView}
 use Rattle.mcv_desks.specs.Asked.{AtOne, eight}
@@ -188,3 +188,36 @@ none_open q0 q1 q2 q3 q4 q5 q6 q7 h0 h1 h2 h3 h4 h5 h6 h7 (suc (suc (suc (suc ze
 none_open q0 q1 q2 q3 q4 q5 q6 q7 h0 h1 h2 h3 h4 h5 h6 h7 (suc (suc (suc (suc (suc zero))))) = h5
 none_open q0 q1 q2 q3 q4 q5 q6 q7 h0 h1 h2 h3 h4 h5 h6 h7 (suc (suc (suc (suc (suc (suc zero)))))) = h6
 none_open q0 q1 q2 q3 q4 q5 q6 q7 h0 h1 h2 h3 h4 h5 h6 h7 (suc (suc (suc (suc (suc (suc (suc k))))))) = h7
+
+-- the one of a number
+module _ {X : Type 0} (x0 x1 x2 x3 x4 x5 x6 x7 : X) where
+  pub is0 : (hub : ℕ) → hub ≡ 0 → eight x0 x1 x2 x3 x4 x5 x6 x7 hub ≡ x0
+  is0 hub e = ap (eight x0 x1 x2 x3 x4 x5 x6 x7) e
+
+  pub is1 : (hub : ℕ) → hub ≡ 1 → eight x0 x1 x2 x3 x4 x5 x6 x7 hub ≡ x1
+  is1 hub e = ap (eight x0 x1 x2 x3 x4 x5 x6 x7) e
+
+  pub is2 : (hub : ℕ) → hub ≡ 2 → eight x0 x1 x2 x3 x4 x5 x6 x7 hub ≡ x2
+  is2 hub e = ap (eight x0 x1 x2 x3 x4 x5 x6 x7) e
+
+  pub is3 : (hub : ℕ) → hub ≡ 3 → eight x0 x1 x2 x3 x4 x5 x6 x7 hub ≡ x3
+  is3 hub e = ap (eight x0 x1 x2 x3 x4 x5 x6 x7) e
+
+  pub is4 : (hub : ℕ) → hub ≡ 4 → eight x0 x1 x2 x3 x4 x5 x6 x7 hub ≡ x4
+  is4 hub e = ap (eight x0 x1 x2 x3 x4 x5 x6 x7) e
+
+  pub is5 : (hub : ℕ) → hub ≡ 5 → eight x0 x1 x2 x3 x4 x5 x6 x7 hub ≡ x5
+  is5 hub e = ap (eight x0 x1 x2 x3 x4 x5 x6 x7) e
+
+  pub is6 : (hub : ℕ) → hub ≡ 6 → eight x0 x1 x2 x3 x4 x5 x6 x7 hub ≡ x6
+  is6 hub e = ap (eight x0 x1 x2 x3 x4 x5 x6 x7) e
+
+  pub is7 : (hub : ℕ) → 7 ≤ hub → eight x0 x1 x2 x3 x4 x5 x6 x7 hub ≡ x7
+  is7 zero w = absurd (omega (arith, w))
+  is7 (suc zero) w = absurd (omega (arith, w))
+  is7 (suc (suc zero)) w = absurd (omega (arith, w))
+  is7 (suc (suc (suc zero))) w = absurd (omega (arith, w))
+  is7 (suc (suc (suc (suc zero)))) w = absurd (omega (arith, w))
+  is7 (suc (suc (suc (suc (suc zero))))) w = absurd (omega (arith, w))
+  is7 (suc (suc (suc (suc (suc (suc zero)))))) w = absurd (omega (arith, w))
+  is7 (suc (suc (suc (suc (suc (suc (suc k))))))) w = refl

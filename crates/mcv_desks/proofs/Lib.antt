@@ -4,3 +4,4 @@ pub mod EightDesks
 pub mod AskedAtHubs
 pub mod MixedReplies
 pub mod MixedRequests
+pub mod OpenDesks

@@ -33,6 +33,12 @@ pub one_came : (old new : Slab MixedView) (number : ℕ) (m : MixedView) → Upd
 one_came old new number m u other apart = ap (option_map (λ (v : MixedView). v.request)) (u.others other apart)
 
 -- one goes
+pub one_gone : (old new : Slab MixedView) (number : ℕ) → Updates old new number None → mixed_at new number ≡ None
+one_gone old new number u = ap (option_map (λ (m : MixedView). m.request)) u.changed
+
+pub others_stay : (old new : Slab MixedView) (number : ℕ) → Updates old new number None → (other : ℕ) → (other ≡ number → ⊥) → mixed_at new other ≡ mixed_at old other
+others_stay old new number u other apart = ap (option_map (λ (m : MixedView). m.request)) (u.others other apart)
+
 pub one_left : (old new : Slab MixedView) (number : ℕ) → Updates old new number None → AreSomeLeft (mixed_at old) (mixed_at new)
 one_left old new number u other =
     elim (cases_eq other number) [

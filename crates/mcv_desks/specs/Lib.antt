@@ -2,3 +2,4 @@ pub mod OneKey
 pub mod Desks
 pub mod Mixed
 pub mod Asked
+pub mod Open

@@ -15,10 +15,10 @@ use Rattle.mcv_turn.specs.Answers.{IsAnswer}
 use Rattle.mcv_desks.specs.Desks.{AsksHubs, IsForOf, WasTakenOf}
 use Rattle.mcv_desks.specs.OneKey.{AreOfKeys, only_key}
 
--- the session of this number asks it, among so many hubs; no other one has its serial number
+-- a request of a session, which has this number there, among so many hubs; no other one has its serial number
 pub record MixedRequest : Type 0 where
   pub serial : ℕ
-  pub session : ℕ
+  pub number : ℕ
   pub hubs : ℕ
   pub asked : Request
 

@@ -1,12 +1,14 @@
 //! The desks of a loop at all hubs.
 
-ghost use Rattle.std.specs.Prelude.{◌≡◌, ◌<◌, ℕ, IfOk, IfSome};
+ghost use Rattle.std.specs.Prelude.{◌≡◌, ◌≢◌, ◌↔◌, ◌<◌, ℕ, true, None, IfNone, IfOk, IfSome, OnErr, OnOk};
 ghost use Rattle.std.specs.Arc.{arc_value};
-ghost use Rattle.mcv_desks.specs.Asked.{AreSameMixed, AreSomeLeft, IfWhole, IsAnswerOf, IsNextKey, joined_of, mixed_at};
+ghost use Rattle.mcv_desks.specs.Asked.{AreSameMixed, AreSomeLeft, IfNotWhole, IfWhole, IsAnswerOf, IsNextKey, joined_of, mixed_at};
 ghost use Rattle.mcv_desks.specs.Desks.{AsksHubs};
 ghost use Rattle.mcv_desks.specs.Mixed.{IsKeyAnswer};
+ghost use Rattle.mcv_desks.specs.Open.{AreInPlace, AreSameRequests, IsOneLess, IsOneMore, IsOpen, IsTakenAway, asked_of, entering_of, servers_of};
 ghost use Rattle.mcv_session.specs.Desk.{answer_value};
-ghost use Rattle.mcv_text.specs.Request.{request_value};
+ghost use Rattle.mcv_text.specs.Request.{RequestValue, request_value};
+ghost use Rattle.mcv_turn.specs.Shown.{is_known_marked};
 
 use crate::hub_desks::HubDesks;
 use crate::mixed::Mixed;
@@ -24,7 +26,8 @@ use std::sync::{Arc, Wait};
 /// More answers than come.
 const TURNS: u64 = u64::MAX;
 
-/// A desk at each hub, and the requests whose keys have several hubs. Clauses see how many hubs have keys.
+/// A desk at each hub, and the requests whose keys have several hubs. Clauses see how many hubs have keys, which requests are open, and
+/// what each desk has noted.
 #[derive(Drop)]
 pub struct LoopDesks<'a, F: HubNames, G: Names> {
     alloc: Global,
@@ -36,15 +39,12 @@ pub struct LoopDesks<'a, F: HubNames, G: Names> {
 }
 
 impl<'a, F: HubNames, G: Names> Model for LoopDesks<'a, F, G> {
-    ghost use Rattle.std.specs.Prelude.{ℕ};
-    ghost use Rattle.std.specs.Coded.{coded_ℕ};
-    ghost use Rattle.mcv_desks.specs.Asked.{AreDesks, mixed_at, questions_at};
+    ghost use Rattle.mcv_desks.specs.Asked.{AreDesks, desks_view, mixed_at, questions_at};
+    ghost use Rattle.mcv_desks.specs.Open.{DesksView};
 
-    ghost Value = { ℕ };
+    ghost Value = { DesksView };
 
-    ghost coded = { coded_ℕ };
-
-    ghost view = { λ d. d.choice.now };
+    ghost view = { λ d. desks_view d.choice.now d.mixed d.desks };
 
     ghost invariant = { λ d. AreDesks d.choice.now d.next (mixed_at d.mixed) (questions_at d.desks) };
 }
@@ -81,17 +81,17 @@ fn joined_of(whole: Option<Answer>) -> Joined
     }
 }
 
-/// The next key that is to be asked of the request of this number; None where there is none.
+/// The next key that is to be asked of the request at this place; None where there is none.
 fn next_key<F: HubNames>(
     choice: &HubChoice,
     mixed: &mut Slab<Mixed<F>>,
-    number: usize,
+    place: usize,
 ) -> Option<NextKey>
     ensures same { AreSameMixed mixed.old mixed.new }
-    ensures key { IfSome result (λ k. IsNextKey choice.now (mixed_at mixed.old number) k) }
+    ensures key { IfSome result (λ k. IsNextKey choice.now (mixed_at mixed.old place) k) }
     ensures there { IfSome result (λ k. k.hub < 8) }
 {
-    let Some(one) = mixed.get_mut(number) else {
+    let Some(one) = mixed.get_mut(place) else {
         return None;
     };
     let Some(alone) = one.next_key() else {
@@ -105,28 +105,28 @@ fn next_key<F: HubNames>(
     })
 }
 
-/// For want of memory a key of the request of this number isn't asked.
-fn refuse_at<F: HubNames>(mixed: &mut Slab<Mixed<F>>, number: usize)
+/// For want of memory a key of the request at this place isn't asked.
+fn refuse_at<F: HubNames>(mixed: &mut Slab<Mixed<F>>, place: usize)
     ensures { AreSameMixed mixed.old mixed.new }
 {
-    let Some(one) = mixed.get_mut(number) else {
+    let Some(one) = mixed.get_mut(place) else {
         return;
     };
     one.refuse(DeskFault::Memory);
 }
 
-/// A key of the request of this number is answered so, if that has this serial number.
+/// A key of the request at this place is answered so, if that has this serial number.
 fn put_at<F: HubNames>(
     mixed: &mut Slab<Mixed<F>>,
-    number: usize,
+    place: usize,
     serial: u64,
     key: usize,
     outcome: Result<Vec<Part>, DeskFault>,
 )
-    requires { IfSome (mixed_at mixed.old number) (λ q. q.serial ≡ serial → IsKeyAnswer F.opened_of q key (answer_value outcome)) }
+    requires { IfSome (mixed_at mixed.old place) (λ q. q.serial ≡ serial → IsKeyAnswer F.opened_of q key (answer_value outcome)) }
     ensures { AreSameMixed mixed.old mixed.new }
 {
-    let Some(one) = mixed.get_mut(number) else {
+    let Some(one) = mixed.get_mut(place) else {
         return;
     };
     if one.serial() != serial {
@@ -135,18 +135,21 @@ fn put_at<F: HubNames>(
     one.put(key, outcome);
 }
 
-/// Takes the request of this number away, if it is done: its answer.
-fn take_done<F: HubNames>(mixed: &mut Slab<Mixed<F>>, number: usize) -> Option<Answer>
-    ensures answer { IfSome result (λ a. IsAnswerOf F.opened_of (mixed_at mixed.old number) a.asker (request_value (arc_value a.request)) (answer_value a.outcome)) }
+/// Takes the request at this place away, if it is done: its answer.
+fn take_done<F: HubNames>(mixed: &mut Slab<Mixed<F>>, place: usize) -> Option<Answer>
+    ensures answer { IfSome result (λ a. IsAnswerOf F.opened_of (mixed_at mixed.old place) a.asker (request_value (arc_value a.request)) (answer_value a.outcome)) }
+    ensures gone { IfSome result (λ a. mixed_at mixed.new place ≡ None) }
+    ensures others { (other : ℕ) → other ≢ place → mixed_at mixed.new other ≡ mixed_at mixed.old other }
+    ensures none { IfNone result (AreSameMixed mixed.old mixed.new) }
     ensures left { AreSomeLeft (mixed_at mixed.old) (mixed_at mixed.new) }
 {
-    let Some(one) = mixed.get(number) else {
+    let Some(one) = mixed.get(place) else {
         return None;
     };
     if !one.is_done() {
         return None;
     }
-    let Some(done) = mixed.try_remove(number) else {
+    let Some(done) = mixed.try_remove(place) else {
         return None;
     };
     Some(done.into_answer())
@@ -159,7 +162,8 @@ impl<'a, F: HubNames, G: Names> LoopDesks<'a, F, G> {
         hubs: &'a Hubs<F, G>,
         seats: Seats<F, G>,
     ) -> Result<LoopDesks<'a, F, G>, AllocError>
-        ensures { IfOk result (λ d. d ≡ hubs.now.choice) }
+        ensures hubs { IfOk result (λ d. d.hubs ≡ hubs.now.choice) }
+        ensures none { IfOk result (λ d. (number : ℕ) (request : RequestValue) → IsOpen d number request → ⊥) }
     {
         let desks = HubDesks::new(alloc, hubs, seats)?;
         let mixed = Slab::new(alloc);
@@ -172,63 +176,65 @@ impl<'a, F: HubNames, G: Names> LoopDesks<'a, F, G> {
         })
     }
 
-    /// Takes a request of a session: the next turns begin calls for its keys at their hubs. An error is that memory ran out, or that
-    /// 2^64 - 1 requests of several hubs were asked, and nothing was asked then.
-    pub fn ask(&mut self, session: u64, request: Arc<Request>) -> Result<(), AllocError>
-        ensures { self.new ≡ self.old }
+    /// Takes a request of a session, which has this number: the next turns begin calls for its keys at their hubs. An error is that memory
+    /// ran out, or that 2^64 - 1 requests of several hubs were asked, and nothing was asked then.
+    pub fn ask(&mut self, number: u64, request: Arc<Request>) -> Result<(), AllocError>
+        ensures asked { OnOk result (IsOneMore self.old self.new number (request_value (arc_value request))) }
+        ensures err { OnErr result (AreSameRequests self.old self.new) }
     {
         match one_hub(self.choice, &request) {
-            Some(hub) => self.desks.ask_at(hub, Asker::Session(session), request),
-            None => self.ask_mixed(session, request),
+            Some(hub) => self.desks.ask_at(hub, Asker::Session(number), request),
+            None => self.ask_mixed(number, request),
         }
     }
 
     /// Takes a request whose keys have several hubs.
-    fn ask_mixed(&mut self, session: u64, request: Arc<Request>) -> Result<(), AllocError>
-        ensures { self.new ≡ self.old }
+    fn ask_mixed(&mut self, number: u64, request: Arc<Request>) -> Result<(), AllocError>
+        ensures asked { OnOk result (IsOneMore self.old self.new number (request_value (arc_value request))) }
+        ensures err { OnErr result (AreSameRequests self.old self.new) }
     {
         let Some(next) = self.next.checked_add(1) else {
             return Err(AllocError);
         };
         let hubs = self.choice.hubs();
-        let mixed = Mixed::new(self.alloc, self.next, session, hubs, request)?;
-        let number = self.mixed.insert(mixed)?;
+        let mixed = Mixed::new(self.alloc, self.next, number, hubs, request)?;
+        let place = self.mixed.insert(mixed)?;
         self.next = next;
-        self.ask_keys(number);
-        // Where there was no memory to ask the first key, no answer will come.
-        match self.take_done(number) {
-            Some(_) => Err(AllocError),
-            None => Ok(()),
+        self.ask_keys(place);
+        if self.take_done(place).is_some() {
+            // There was no memory to ask the first key: no answer will come.
+            return Err(AllocError);
         }
+        Ok(())
     }
 
     /// Asks further keys of a request of several hubs, each alone at its hub.
-    fn ask_keys(&mut self, number: usize)
-        ensures { self.new ≡ self.old }
+    fn ask_keys(&mut self, place: usize)
+        ensures { AreInPlace self.old self.new }
     {
         for _key in 0..TURNS {
-            if !self.ask_key(number) {
+            if !self.ask_key(place) {
                 return;
             }
         }
     }
 
     /// Asks the next key of a request of several hubs alone at its hub. Whether a further one may be asked.
-    fn ask_key(&mut self, number: usize) -> bool
-        ensures { self.new ≡ self.old }
+    fn ask_key(&mut self, place: usize) -> bool
+        ensures { AreInPlace self.old self.new }
     {
-        let Some(next) = next_key(self.choice, &mut self.mixed, number) else {
+        let Some(next) = next_key(self.choice, &mut self.mixed, place) else {
             return false;
         };
         let asker = Asker::Key {
-            request: number,
+            request: place,
             serial: next.serial,
             key: next.key,
         };
         match self.desks.ask_at(next.hub, asker, next.alone) {
             Ok(()) => true,
             Err(_) => {
-                refuse_at(&mut self.mixed, number);
+                refuse_at(&mut self.mixed, place);
                 false
             }
         }
@@ -237,9 +243,9 @@ impl<'a, F: HubNames, G: Names> LoopDesks<'a, F, G> {
     /// The next answer to a request of a session, from replies of the hubs of its keys, in the order of the keys; None where none is
     /// there.
     pub fn answer(&mut self) -> Option<Answer>
-        ensures same { self.new ≡ self.old }
-        ensures asker { IfSome result (λ a. (session : ℕ) × (a.asker ≡ Asker.Session session)) }
-        ensures answer { IfSome result (λ a. AsksHubs F.opened_of self.old (request_value (arc_value a.request)) (answer_value a.outcome)) }
+        ensures answered { IfSome result (λ a. (number : ℕ) × (a.asker ≡ Asker.Session number) × IsOneLess self.old self.new number (request_value (arc_value a.request))) }
+        ensures none { IfNone result (AreSameRequests self.old self.new) }
+        ensures answer { IfSome result (λ a. AsksHubs F.opened_of self.old.hubs (request_value (arc_value a.request)) (answer_value a.outcome)) }
     {
         for hub in 0..MOST_HUBS {
             if let Some(answer) = self.answer_of(hub) {
@@ -252,9 +258,9 @@ impl<'a, F: HubNames, G: Names> LoopDesks<'a, F, G> {
     /// The next answer to a request of a session that the desk at the hub of this number gives.
     fn answer_of(&mut self, hub: usize) -> Option<Answer>
         requires { hub < 8 }
-        ensures same { self.new ≡ self.old }
-        ensures asker { IfSome result (λ a. (session : ℕ) × (a.asker ≡ Asker.Session session)) }
-        ensures answer { IfSome result (λ a. AsksHubs F.opened_of self.old (request_value (arc_value a.request)) (answer_value a.outcome)) }
+        ensures answered { IfSome result (λ a. (number : ℕ) × (a.asker ≡ Asker.Session number) × IsOneLess self.old self.new number (request_value (arc_value a.request))) }
+        ensures none { IfNone result (AreSameRequests self.old self.new) }
+        ensures answer { IfSome result (λ a. AsksHubs F.opened_of self.old.hubs (request_value (arc_value a.request)) (answer_value a.outcome)) }
     {
         for _answer in 0..TURNS {
             match self.next_of(hub) {
@@ -269,9 +275,9 @@ impl<'a, F: HubNames, G: Names> LoopDesks<'a, F, G> {
     /// Takes the next answer of the desk at the hub of this number.
     fn next_of(&mut self, hub: usize) -> Joined
         requires { hub < 8 }
-        ensures same { self.new ≡ self.old }
-        ensures asker { IfWhole result (λ a. (session : ℕ) × (a.asker ≡ Asker.Session session)) }
-        ensures answer { IfWhole result (λ a. AsksHubs F.opened_of self.old (request_value (arc_value a.request)) (answer_value a.outcome)) }
+        ensures answered { IfWhole result (λ a. (number : ℕ) × (a.asker ≡ Asker.Session number) × IsOneLess self.old self.new number (request_value (arc_value a.request))) }
+        ensures none { IfNotWhole result (AreSameRequests self.old self.new) }
+        ensures answer { IfWhole result (λ a. AsksHubs F.opened_of self.old.hubs (request_value (arc_value a.request)) (answer_value a.outcome)) }
     {
         let Some(answer) = self.desks.answer_at(hub) else {
             return Joined::Nothing;
@@ -290,16 +296,16 @@ impl<'a, F: HubNames, G: Names> LoopDesks<'a, F, G> {
         }
     }
 
-    /// Takes the request of several hubs of this number away, if it is done: its answer.
-    fn take_done(&mut self, number: usize) -> Option<Answer>
-        ensures same { self.new ≡ self.old }
-        ensures asker { IfSome result (λ a. (session : ℕ) × (a.asker ≡ Asker.Session session)) }
-        ensures answer { IfSome result (λ a. AsksHubs F.opened_of self.old (request_value (arc_value a.request)) (answer_value a.outcome)) }
+    /// Takes the request of several hubs at this place away, if it is done: its answer.
+    fn take_done(&mut self, place: usize) -> Option<Answer>
+        ensures taken { IfSome result (λ a. (number : ℕ) × (a.asker ≡ Asker.Session number) × IsTakenAway self.old self.new place number (request_value (arc_value a.request))) }
+        ensures none { IfNone result (AreInPlace self.old self.new) }
+        ensures answer { IfSome result (λ a. AsksHubs F.opened_of self.old.hubs (request_value (arc_value a.request)) (answer_value a.outcome)) }
     {
-        take_done(&mut self.mixed, number)
+        take_done(&mut self.mixed, place)
     }
 
-    /// One turn at the hub of this number, under its lock.
+    /// One turn at the hub of this number, under its lock. The same requests are open as before.
     pub fn turn<R: Wait>(
         &mut self,
         rt: &R,
@@ -309,28 +315,37 @@ impl<'a, F: HubNames, G: Names> LoopDesks<'a, F, G> {
         came: Came,
         gives: &mut Gives,
     )
-        ensures { self.new ≡ self.old }
+        ensures { AreSameRequests self.old self.new }
     {
         self.desks.turn(rt, hubs, pass, hub, came, gives);
     }
 
     /// Whether requests were asked at the hub of this number since its last turn.
-    pub fn is_asked(&self, hub: usize) -> bool {
+    pub fn is_asked(&self, hub: usize) -> bool
+        ensures { result ≡ asked_of self.now hub }
+    {
         self.desks.is_asked(hub)
     }
 
     /// Whether requests wait to begin at the hub of this number.
-    pub fn waits(&self, hub: usize) -> bool {
+    pub fn waits(&self, hub: usize) -> bool
+        ensures { (result ≡ true) ↔ (0 < entering_of self.now hub) }
+    {
         self.desks.waits(hub)
     }
 
-    /// Whether the server was marked in the last turn at the hub of this number.
-    pub fn is_marked(&self, hub: usize, server: ServerId) -> bool {
+    /// Whether the server was marked at the end of the last turn at the hub of this number.
+    pub fn is_marked(&self, hub: usize, server: ServerId) -> bool
+        ensures { result ≡ is_known_marked (servers_of self.now hub) server }
+    {
         self.desks.is_marked(hub, server)
     }
 
-    /// The seats, and the receipts that were kept. An error is that there was no memory for all receipts.
-    pub fn into_parts(self) -> (Seats<F, G>, Result<Vec<Receipt>, AllocError>) {
+    /// The seats, and the receipts that were kept, those of the first hub first. An error is that there was no memory for all receipts.
+    pub fn into_parts(self) -> (Seats<F, G>, Result<Vec<Receipt>, AllocError>)
+        ensures seats { result.0 ≡ self.entry.tallies }
+        ensures receipts { IfOk result.1 (λ v. v.items ≡ self.entry.receipts) }
+    {
         let LoopDesks { desks, .. } = self;
         desks.into_parts()
     }

@@ -1,12 +1,15 @@
 //! One desk at each hub.
 
-ghost use Rattle.std.specs.Prelude.{◌≡◌, ◌<◌, ℕ, None, IfNone, IfOk, IfSome, OnErr, OnOk};
+ghost use Rattle.std.specs.Prelude.{◌≡◌, ◌↔◌, ◌<◌, ◌++◌, ℕ, true, None, Ok, Vec, IfNone, IfOk, IfSome, OnErr, OnOk};
 ghost use Rattle.std.specs.Arc.{arc_value};
-ghost use Rattle.mcv_desks.specs.Asked.{AtOne, questions_at};
+ghost use Rattle.std.specs.declared.alloc.Global.{Global as TheAllocator};
+ghost use Rattle.mcv_desks.specs.Asked.{AtOne, asked_at, entering_at, questions_at, receipts_of, servers_at, tallies_of};
+ghost use Rattle.mcv_hub.specs.declared.receipts.Receipt.{Receipt as TheReceipt};
 ghost use Rattle.mcv_session.specs.Desk.{answer_value};
 ghost use Rattle.mcv_text.specs.Request.{request_value};
 ghost use Rattle.mcv_turn.specs.Answers.{IsAnswer};
 ghost use Rattle.mcv_turn.specs.OpenRequests.{AreSameOpen, Closes, Opens, open_at};
+ghost use Rattle.mcv_turn.specs.Shown.{is_known_marked};
 
 use mcv_base::{Request, ServerId};
 use mcv_hub::{Hub, HubLedger, Pass, Receipt};
@@ -48,9 +51,21 @@ fn turn_at<B: HubLedger, T: Ledger, R: Wait>(
 fn with_more(
     all: Result<Vec<Receipt>, AllocError>,
     other: Vec<Receipt>,
-) -> Result<Vec<Receipt>, AllocError> {
-    let mut all = all?;
-    all.extend_from_slice(other.as_slice())?;
+) -> Result<Vec<Receipt>, AllocError>
+    ensures { IfOk result (λ v. (before : Vec TheReceipt TheAllocator) × (all ≡ Ok before) × (v.items ≡ before.items ++ other.items)) }
+{
+    match all {
+        Ok(all) => joined(all, other.as_slice()),
+        Err(fault) => Err(fault),
+    }
+}
+
+/// These receipts, and others behind them. An error is that memory ran out.
+fn joined(all: Vec<Receipt>, others: &[Receipt]) -> Result<Vec<Receipt>, AllocError>
+    ensures { IfOk result (λ v. v.items ≡ all.items ++ others.now) }
+{
+    let mut all = all;
+    all.extend_from_slice(others)?;
     Ok(all)
 }
 
@@ -158,7 +173,9 @@ impl<'a, F: HubNames, G: Names> HubDesks<'a, F, G> {
     }
 
     /// Whether requests were asked at the hub of this number since its last turn.
-    pub(crate) fn is_asked(&self, hub: usize) -> bool {
+    pub(crate) fn is_asked(&self, hub: usize) -> bool
+        ensures { result ≡ asked_at self.now hub }
+    {
         match hub {
             0 => self.desk0.is_asked(),
             1 => self.desk1.is_asked(),
@@ -172,7 +189,9 @@ impl<'a, F: HubNames, G: Names> HubDesks<'a, F, G> {
     }
 
     /// Whether requests wait to begin at the hub of this number.
-    pub(crate) fn waits(&self, hub: usize) -> bool {
+    pub(crate) fn waits(&self, hub: usize) -> bool
+        ensures { (result ≡ true) ↔ (0 < entering_at self.now hub) }
+    {
         match hub {
             0 => self.desk0.waits(),
             1 => self.desk1.waits(),
@@ -185,8 +204,10 @@ impl<'a, F: HubNames, G: Names> HubDesks<'a, F, G> {
         }
     }
 
-    /// Whether the server was marked in the last turn at the hub of this number.
-    pub(crate) fn is_marked(&self, hub: usize, server: ServerId) -> bool {
+    /// Whether the server was marked at the end of the last turn at the hub of this number.
+    pub(crate) fn is_marked(&self, hub: usize, server: ServerId) -> bool
+        ensures { result ≡ is_known_marked (servers_at self.now hub) server }
+    {
         match hub {
             0 => self.desk0.is_marked(server),
             1 => self.desk1.is_marked(server),
@@ -199,8 +220,11 @@ impl<'a, F: HubNames, G: Names> HubDesks<'a, F, G> {
         }
     }
 
-    /// The seats, and the receipts that were kept. An error is that there was no memory for all receipts.
-    pub(crate) fn into_parts(self) -> (Seats<F, G>, Result<Vec<Receipt>, AllocError>) {
+    /// The seats, and the receipts that were kept, those of the first hub first. An error is that there was no memory for all receipts.
+    pub(crate) fn into_parts(self) -> (Seats<F, G>, Result<Vec<Receipt>, AllocError>)
+        ensures seats { result.0 ≡ tallies_of self.entry }
+        ensures receipts { IfOk result.1 (λ v. v.items ≡ receipts_of self.entry) }
+    {
         let HubDesks {
             desk0,
             desk1,

@@ -25,7 +25,8 @@ const MOST_OPEN: usize = 1024;
 #[derive(Drop)]
 pub(crate) struct Mixed<F: HubNames> {
     serial: u64,
-    session: u64,
+    /// The number that it has as a request of a session.
+    number: u64,
     /// Among how many hubs its keys are.
     hubs: usize,
     request: Arc<Request>,
@@ -49,9 +50,9 @@ impl<F: HubNames> Model for Mixed<F> {
 
     ghost Value = { MixedView };
 
-    ghost view = { λ m. record { request = record { serial = m.serial; session = m.session; hubs = m.hubs; asked = arc_value m.request }; answered = m.answered; fault = m.fault } };
+    ghost view = { λ m. record { request = record { serial = m.serial; number = m.number; hubs = m.hubs; asked = arc_value m.request }; answered = m.answered; fault = m.fault } };
 
-    ghost invariant = { λ m. IsMixed F.opened_of (record { serial = m.serial; session = m.session; hubs = m.hubs; asked = arc_value m.request }) m.of_keys.items m.replies.items m.parts m.answered m.fault };
+    ghost invariant = { λ m. IsMixed F.opened_of (record { serial = m.serial; number = m.number; hubs = m.hubs; asked = arc_value m.request }) m.of_keys.items m.replies.items m.parts m.answered m.fault };
 }
 
 /// What is asked for one key of a request.
@@ -136,11 +137,11 @@ impl<F: HubNames> Mixed<F> {
     pub(crate) fn new(
         alloc: Global,
         serial: u64,
-        session: u64,
+        number: u64,
         hubs: usize,
         request: Arc<Request>,
     ) -> Result<Mixed<F>, AllocError>
-        ensures { IfOk result (λ m. m ≡ record { request = record { serial = serial; session = session; hubs = hubs; asked = arc_value request }; answered = 0; fault = None }) }
+        ensures { IfOk result (λ m. m ≡ record { request = record { serial = serial; number = number; hubs = hubs; asked = arc_value request }; answered = 0; fault = None }) }
     {
         let words: &Request = &request;
         let of_keys = requests_of_keys(alloc, words)?;
@@ -149,7 +150,7 @@ impl<F: HubNames> Mixed<F> {
         let parts = Vec::with_capacity(alloc, count)?;
         Ok(Mixed {
             serial,
-            session,
+            number,
             hubs,
             request,
             of_keys,
@@ -252,12 +253,12 @@ impl<F: HubNames> Mixed<F> {
     /// Its answer, once it is done.
     pub(crate) fn into_answer(self) -> Answer
         requires { IsDone self }
-        ensures asker { result.asker ≡ Asker.Session self.request.session }
+        ensures asker { result.asker ≡ Asker.Session self.request.number }
         ensures request { arc_value result.request ≡ self.request.asked }
         ensures answer { AsksHubs F.opened_of self.request.hubs (request_value self.request.asked) (answer_value result.outcome) }
     {
         let Mixed {
-            session,
+            number,
             request,
             replies,
             parts,
@@ -266,7 +267,7 @@ impl<F: HubNames> Mixed<F> {
         } = self;
         let outcome = outcome_of(fault, replies, parts);
         Answer {
-            asker: Asker::Session(session),
+            asker: Asker::Session(number),
             request,
             outcome,
         }

@@ -1,3 +1,8 @@
-pub mod Took
-pub mod Repeat
-pub mod Lost
+pub mod Moments
+pub mod Ending
+pub mod Patience
+pub mod SpoolState
+pub mod Leftover
+pub mod Places
+pub mod Posts
+pub mod Oldest

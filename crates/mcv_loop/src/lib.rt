@@ -1,21 +1,23 @@
 //! An event loop: clients and servers over whatever is ready.
 //!
-//! `Sources` is what a loop talks to: it waits until something is ready, and reads and writes without waiting. `Loop` feeds sessions
-//! and connections with what was read, locks each hub that it has something for once, and writes what is to be written with one write
-//! for each connection. A test runs it over memory.
+//! `Sources` is what a loop talks to: it waits until something is ready, and makes connections that don't wait. `Loop` hands on between
+//! its clients and its connections to servers: what was read is asked and told, each hub that it has something for is locked once, and
+//! what is to be written is written with one write for each connection. It ends in order: once its clients have their answers and no
+//! leg is queued. A test runs it over memory.
 #![tactic(auto)]
 
-mod client;
-mod clients;
-mod line;
+mod ending;
+mod leftover;
 mod lines;
-mod loss;
 mod main_loop;
+mod moments;
+mod patience;
 mod post;
-mod sent;
+mod servers;
 mod sources;
+mod spool_state;
 mod turns;
+mod vain_waits;
 
-pub use crate::loss::{Loss, may_ask_again};
-pub use crate::main_loop::{Limits, Loop};
-pub use crate::sources::{Ready, Source, SourceFault, Sources, Took};
+pub use crate::main_loop::{Limits, Loop, LoopEnd};
+pub use crate::sources::{Ready, Source, SourceFault, Sources};

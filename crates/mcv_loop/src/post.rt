@@ -1,25 +1,47 @@
-//! What a loop has gathered for one hub since its last turn there.
+//! What a loop has gathered for one hub since its last turn there, and what it knows of the hub since then.
 
+ghost use Rattle.std.specs.Prelude.{◌≡◌, ◌+◌, ◌≤◌, Some, false, is_err, vec_capacity, vec_len};
+ghost use Rattle.mcv_loop.specs.Posts.{GivesUnsent, HasNothing};
+ghost use Rattle.mcv_loop.specs.SpoolState.{IsAnswered, asked_again, may_ask};
+
+use crate::moments::has_passed;
+use crate::patience::TICK;
+use crate::spool_state::SpoolState;
+use crate::vain_waits::VainWaits;
 use mcv_base::{Moment, ServerId};
-use mcv_turn::{Arrival, Came, StoredLeg};
+use mcv_turn::{Arrival, Came, Flight, StoredLeg};
+use mcv_watch::Load;
 use std::alloc::Global;
 use std::mem;
-use std::time::Instant;
+use std::time::{Duration, Instant};
 
 /// What is to be told to one hub in its next turn.
 #[derive(Drop)]
 pub(crate) struct Post {
+    /// What became of legs in flight.
     pub(crate) arrivals: Vec<Arrival>,
+    /// Servers that have answered a probe.
     pub(crate) answering: Vec<ServerId>,
-    pub(crate) stored: Option<StoredLeg>,
+    /// What the spool answered.
+    stored: Option<StoredLeg>,
+    /// Legs that the last turn gave and that aren't sent yet: no turn is made before they are.
+    pub(crate) unsent: Vec<Flight>,
     /// A turn is to be made, whatever came.
     pub(crate) is_wanted: bool,
     /// Legs that are in the spool are to be sent again.
     pub(crate) replays: bool,
-    /// Until when the spool isn't asked.
-    pub(crate) refused_until: Option<Instant>,
+    /// The legs that wait are to be counted.
+    pub(crate) counts: bool,
+    /// How the spool stands to its records.
+    pub(crate) spool: SpoolState,
+    /// A record is being written.
+    pub(crate) is_writing: bool,
     /// Since when requests have waited to begin.
-    pub(crate) waits_since: Option<Instant>,
+    waits_since: Option<Instant>,
+    /// How often they have waited for the next chapter in vain.
+    vain_waits: VainWaits,
+    /// How many legs were queued at the end of the last turn.
+    pub(crate) queued: usize,
 }
 
 impl Post {
@@ -29,15 +51,22 @@ impl Post {
             arrivals: Vec::new(alloc),
             answering: Vec::new(alloc),
             stored: None,
+            unsent: Vec::new(alloc),
             is_wanted: false,
             replays: false,
-            refused_until: None,
+            counts: false,
+            spool: SpoolState::Taking,
+            is_writing: false,
             waits_since: None,
+            vain_waits: VainWaits::new(),
+            queued: 0,
         }
     }
 
-    /// Whether a turn is to be made.
-    pub(crate) fn is_due(&self) -> bool {
+    /// Whether there is something to be told: nothing that came is left out.
+    pub(crate) fn is_due(&self) -> bool
+        ensures { result ≡ false → HasNothing self.now.arrivals.items self.now.answering.items self.now.stored }
+    {
         self.is_wanted
             || self.replays
             || self.stored.is_some()
@@ -46,21 +75,66 @@ impl Post {
     }
 
     /// What is told in a turn at this moment. Nothing is left.
-    pub(crate) fn take(
-        &mut self,
-        alloc: Global,
-        moment: Moment,
-        may_store: bool,
-        waited: bool,
-    ) -> Came {
+    pub(crate) fn take(&mut self, alloc: Global, moment: Moment, now: Option<Instant>) -> Came
+        ensures arrivals { result.arrivals ≡ self.old.arrivals }
+        ensures answering { result.answering ≡ self.old.answering }
+        ensures stored { result.stored ≡ self.old.stored }
+        ensures nothing { HasNothing self.new.arrivals.items self.new.answering.items self.new.stored }
+        ensures asks { result.may_store ≡ may_ask self.old.spool now }
+    {
         self.is_wanted = false;
         let mut came = Came::at(alloc, moment);
         came.arrivals = mem::replace(&mut self.arrivals, Vec::new(alloc));
         came.answering = mem::replace(&mut self.answering, Vec::new(alloc));
         came.stored = self.stored.take();
         came.replays = mem::replace(&mut self.replays, false);
-        came.may_store = may_store;
-        came.waited = waited;
+        came.counts = mem::replace(&mut self.counts, false);
+        came.may_store = self.spool.may_ask(now);
+        if has_passed(self.waits_since, now, Some(Duration::from_millis(TICK))) {
+            self.vain_waits = self.vain_waits.noted();
+        }
+        came.waited = self.vain_waits.are_enough();
         came
+    }
+
+    /// The spool has answered to a record.
+    pub(crate) fn note_stored(&mut self, stored: StoredLeg, now: Option<Instant>)
+        ensures told { self.new.stored ≡ Some stored }
+        ensures answered { IsAnswered (is_err stored.outcome) now self.new.spool }
+        ensures written { self.new.is_writing ≡ false }
+    {
+        self.is_writing = false;
+        self.spool = SpoolState::answered(stored.outcome.is_err(), now);
+        self.stored = Some(stored);
+    }
+
+    /// Whether requests wait to begin, after a turn, and how full the chapter is.
+    pub(crate) fn note_waiting(&mut self, waits: bool, load: Load, now: Option<Instant>) {
+        self.vain_waits = self.vain_waits.seen(load);
+        self.waits_since = match self.waits_since {
+            _ if !waits => None,
+            None => now,
+            since => since,
+        };
+    }
+
+    /// No client is left: the spool is asked once more, where it refuses records.
+    pub(crate) fn ask_again(&mut self)
+        ensures { self.new.spool ≡ asked_again self.old.spool }
+    {
+        self.is_wanted = self.is_wanted || self.spool.refuses();
+        self.spool = self.spool.asked_again();
+    }
+
+    /// The legs that the last turn gave, with room to report each of them as lost. Without memory for that they stay, and none is given.
+    pub(crate) fn take_unsent(&mut self, alloc: Global) -> Vec<Flight>
+        ensures gives { GivesUnsent self.old.unsent.items result.items self.new.unsent.items }
+        ensures room { vec_len self.new.arrivals + vec_len result ≤ vec_capacity self.new.arrivals }
+        ensures arrivals { self.new.arrivals.items ≡ self.old.arrivals.items }
+    {
+        if self.arrivals.reserve(self.unsent.len()).is_err() {
+            return Vec::new(alloc);
+        }
+        mem::replace(&mut self.unsent, Vec::new(alloc))
     }
 }

@@ -1,87 +1,79 @@
 //! What a loop talks to.
 
-ghost use Rattle.std.specs.Prelude.{◌≤◌, length};
-ghost use Rattle.mcv_loop.specs.Took.{IsWithin};
-
 use mcv_base::{Moment, ServerId};
+use mcv_connection::Connection;
 use mcv_hub::{Pass, Past};
 use mcv_turn::{HeldLeg, StoredLeg};
 use std::time::{Duration, Instant};
 use thiserror::Error;
 
-/// A connection.
+/// A connection of a loop.
 #[derive(Clone, Copy, Debug, PartialEq, Eq)]
 pub enum Source {
-    /// To the client of this number. No number is given twice.
-    Client(u64),
+    /// To the client of this number. A number may be that of an earlier client which has gone.
+    Client(usize),
     /// To a server, for legs of the hub of this number.
     Server { hub: usize, server: ServerId },
 }
 
-/// What is ready.
+/// What is ready. Where it isn't, that shows when it is read or written.
 #[derive(Drop)]
-pub enum Ready {
-    /// A new client.
-    Client(u64),
+pub enum Ready<C: Drop> {
+    /// A new client, by its connection.
+    Client(C),
     /// Bytes can be read, or the connection has ended.
     Read(Source),
     /// Bytes can be written.
     Write(Source),
     /// The other side sends no more: what is left is to be read to its end.
     End(Source),
-    /// The spool has answered to a record, for the hub of this number.
-    Stored { hub: usize, stored: StoredLeg },
+    /// The spool has answered to a record, for the hub of this number, and its file has so many slots.
+    Stored {
+        hub: usize,
+        stored: StoredLeg,
+        slots: usize,
+    },
+    /// No more clients come. The loop ends once those that are there have gone, and no leg is queued.
+    Closed,
+    /// An end was asked for: no more clients come, and nothing more is read of those that are there. Behind this moment, where it is
+    /// known, nothing is sent to servers any more.
+    Drains {
+        until: Option<Instant>,
+    },
 }
 
-/// What came of reading or writing.
-#[derive(Clone, Copy, Debug, PartialEq, Eq)]
-pub enum Took {
-    /// So many bytes were read or written, one or more.
-    Bytes(usize),
-    /// None can be, before the source is ready again.
-    NotNow,
-    /// The connection has ended or failed.
-    Over,
-}
-
-/// Why a loop ends.
+/// Why a loop can't go on.
 #[derive(Clone, Copy, Debug, PartialEq, Eq, Error)]
 pub enum SourceFault {
-    /// No more clients are served.
-    #[error("the loop is to end")]
-    Ends,
     #[error("the system can't be waited for")]
     Failed,
     #[error("out of memory")]
     Memory,
 }
 
-/// What a loop talks to. None of these calls waits, but for `wait`; who calls shows a pass, so that it has no hub's lock.
+/// What a loop talks to. None of these calls waits, but for `wait`; who calls shows a pass, so that it has no hub's lock. A connection
+/// ends when it is dropped.
 pub trait Sources: Drop {
-    ghost use Rattle.std.specs.Prelude.{length};
-    ghost use Rattle.mcv_loop.specs.Took.{IsWithin};
+    /// A client's connection. A read or a write that would have to wait fails as `WouldBlock`.
+    type Client: Connection;
+
+    /// A connection to a server, in the same way.
+    type Server: Connection;
 
     /// Waits until something is ready, for so long at most, and puts it behind `ready`.
     fn wait(
         &mut self,
         pass: &Pass,
         most: Option<Duration>,
-        ready: &mut Vec<Ready>,
+        ready: &mut Vec<Ready<Self::Client>>,
     ) -> Result<(), SourceFault>;
 
-    /// Reads bytes that are there.
-    fn read(&mut self, pass: &Pass, source: Source, room: &mut [u8]) -> Took
-        ensures { IsWithin (length room.old) result };
+    /// From now on what is ready of this connection is said of the client of this number, also what was ready before. Whether it will
+    /// be.
+    fn attend(&mut self, pass: &Pass, client: &mut Self::Client, number: usize) -> bool;
 
-    /// Writes bytes, as far as they are taken.
-    fn write(&mut self, pass: &Pass, source: Source, bytes: &[u8]) -> Took
-        ensures { IsWithin (length bytes.now) result };
-
-    /// Begins a connection to a server. What is written to it is taken once it is there. Whether it was begun.
-    fn connect(&mut self, pass: &Pass, hub: usize, server: ServerId) -> bool;
-
-    /// Ends a connection.
-    fn close(&mut self, pass: &Pass, source: Source);
+    /// Begins a connection to a server. What is written to it is taken once it is there. None where it can't be begun.
+    fn connect(&mut self, pass: &Pass, hub: usize, server: ServerId) -> Option<Self::Server>;
 
     /// The record of a held leg is to be written, for the hub of this number. Whether it will be: the answer comes as `Stored`.
     fn store(&mut self, pass: &Pass, hub: usize, held: HeldLeg) -> bool;

@@ -44,6 +44,12 @@ impl Server {
         }
     }
 
+    /// A new connection to it is begun: nothing of an earlier one is read or said.
+    pub(crate) fn hang_up(&mut self) {
+        self.reader = RequestReader::new(self.alloc);
+        self.says.clear();
+    }
+
     /// It reads these bytes, and says what it answers to them; None where they are no legs that it knows.
     pub(crate) fn read(&mut self, bytes: &[u8]) -> Option<()> {
         let items = self.reader.feed(bytes).ok()?;

@@ -45,7 +45,7 @@ metric_name Uptime = codes "mcv_uptime_seconds"
 metric_name Build = codes "mcv_build_info"
 
 abbrev pub metric_help : Metric → List ℕ
-metric_help (Words Calls) = codes "Calls that were answered, by operation."
+metric_help (Words Calls) = codes "Calls that clients asked for, by operation."
 metric_help (Words Replies) = codes "Replies to these calls, by outcome."
 metric_help (Words Refusals) = codes "Requests that were refused, by cause."
 metric_help (Servers Sent) = codes "Legs begun, by server."

@@ -127,7 +127,7 @@ impl Metric {
         ensures { result.now ≡ metric_help self }
     {
         match self {
-            Metric::Words(WordMetric::Calls) => "Calls that were answered, by operation.",
+            Metric::Words(WordMetric::Calls) => "Calls that clients asked for, by operation.",
             Metric::Words(WordMetric::Replies) => "Replies to these calls, by outcome.",
             Metric::Words(WordMetric::Refusals) => "Requests that were refused, by cause.",
             Metric::Servers(ServerMetric::Sent) => "Legs begun, by server.",

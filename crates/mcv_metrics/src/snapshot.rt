@@ -15,7 +15,7 @@ pub struct WordCount {
 /// What is counted by words.
 #[derive(Drop)]
 pub struct WordCounts {
-    /// Calls that were answered, by operation.
+    /// Calls that clients asked for, by operation.
     pub calls: Vec<WordCount>,
     /// Replies to these, by outcome.
     pub replies: Vec<WordCount>,

@@ -1,5 +1,1 @@
-pub mod Losing
-pub mod Reading
-pub mod Sending
-pub mod Turns
-pub mod Writing
+pub mod Texts

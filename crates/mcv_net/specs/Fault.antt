@@ -1,7 +1,7 @@
 -- Why a proxy on sockets can't be run (own).
 use Rattle.std.specs.Prelude.{ℕ}
-use Rattle.mcv_proxy.specs.declared.fault.ProxyFault.{ProxyFault}
-use Rattle.mcv_proxy.specs.declared.fault.ProxyFault.TheVariants as proxy_faults
+use Rattle.mcv_serve.specs.declared.fault.ProxyFault.{ProxyFault}
+use Rattle.mcv_serve.specs.declared.fault.ProxyFault.TheVariants as proxy_faults
 use Rattle.mcv_net.specs.declared.fault.NetFault.{NetFault}
 use Rattle.mcv_net.specs.declared.fault.NetFault.TheVariants.{Memory, Device}
 

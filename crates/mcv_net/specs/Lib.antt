@@ -1,9 +1,5 @@
--- What a proxy on sockets writes, reads and prints.
-pub mod Exchange
+-- What a proxy on sockets prints, and whom it tells.
 pub mod Fault
-pub mod Legs
 pub mod Lines
-pub mod Repeat
 pub mod Seats
-pub mod Service
-pub mod Connections
+pub mod Shortages

@@ -2,17 +2,17 @@
 
 use crate::connection::TcpConnection;
 use crate::fault::NetFault;
-use crate::gates::passes;
 use crate::notice::{Notice, Notices, StandardError};
 use crate::service::Service;
 use mcv_admin::{Health, Panel, serve_request};
 use mcv_metrics::Snapshot;
+use mcv_poll::Mailbox;
 use mcv_tally::Tally;
 use std::alloc::{AllocError, Global};
-use std::io::Eprint;
-use std::net::{Net, SocketAddr, TcpListener, TcpStream};
+use std::io::{Eprint, ErrorKind};
+use std::net::{TcpListener, TcpStream};
 use std::rt::Clock;
-use std::sync::Wait;
+use std::sync::{Arc, Wait};
 use std::thread;
 use std::thread::Threads;
 use std::time::{Duration, Instant};
@@ -28,11 +28,11 @@ struct NetPanel<R: Drop> {
     error: StandardError<R>,
     /// The start, which the end is counted from where the clock can't be read.
     since: Instant,
-    /// Where clients are accepted.
-    clients: SocketAddr,
+    /// Where the loop is woken.
+    mailbox: Arc<Mailbox>,
 }
 
-impl<R: Net<Stream = TcpStream> + Clock + Eprint + Wait + Copy + Drop> Panel for NetPanel<R> {
+impl<R: Clock + Eprint + Wait + Copy + Drop> Panel for NetPanel<R> {
     ghost use Rattle.std.specs.Prelude.{⊤};
 
     // Other threads change what is said.
@@ -59,19 +59,18 @@ impl<R: Net<Stream = TcpStream> + Clock + Eprint + Wait + Copy + Drop> Panel for
     }
 }
 
-impl<R: Net<Stream = TcpStream> + Drop> NetPanel<R> {
-    /// Has who waits for clients see that an end was asked for. Whoever asked for it has the response by then, since the
-    /// program may end at once.
+impl<R: Drop> NetPanel<R> {
+    /// Has the loop see that an end was asked for. Whoever asked for it has the response by then, since the program may end at
+    /// once.
     fn wake(&self) {
         if self.service.is_ending() {
-            let most = Duration::from_secs(SECONDS);
-            let _ = TcpStream::connect_timeout(&self.rt, &self.clients, most);
+            self.mailbox.wake();
         }
     }
 }
 
 /// Answers one request. What fails is the operator's.
-fn answer<R: Net<Stream = TcpStream> + Clock + Eprint + Wait + Copy + Drop>(
+fn answer<R: Clock + Eprint + Wait + Copy + Drop>(
     rt: R,
     alloc: Global,
     stream: TcpStream,
@@ -89,8 +88,13 @@ fn answer<R: Net<Stream = TcpStream> + Clock + Eprint + Wait + Copy + Drop>(
     let _ = serve_request(alloc, &mut reader, &mut writer, panel);
 }
 
+/// Whether a listener that failed so accepts connections later. One that isn't a listener never does.
+fn passes(kind: ErrorKind) -> bool {
+    kind != ErrorKind::InvalidInput && kind != ErrorKind::Unsupported
+}
+
 /// Answers requests, one connection after another.
-fn attend<R: Net<Stream = TcpStream, Listener = TcpListener> + Clock + Eprint + Wait + Copy + Drop>(
+fn attend<R: Clock + Eprint + Wait + Copy + Drop>(
     rt: R,
     alloc: Global,
     listener: TcpListener,
@@ -108,25 +112,18 @@ fn attend<R: Net<Stream = TcpStream, Listener = TcpListener> + Clock + Eprint + 
     }
 }
 
-/// Answers an operator at this listener from now on, of what is counted in the tally, while clients come to that address.
+/// Answers an operator at this listener from now on, of what is counted in the tally. Who asks for an end wakes the loop by its
+/// mailbox.
 pub(crate) fn serve_operators<R>(
     rt: R,
     alloc: Global,
     tally: Tally,
     listener: TcpListener,
-    clients: SocketAddr,
+    mailbox: Arc<Mailbox>,
     error: StandardError<R>,
 ) -> Result<Service, NetFault>
 where
-    R: Net<Stream = TcpStream, Listener = TcpListener>
-        + Threads
-        + Wait
-        + Clock
-        + Eprint
-        + Copy
-        + Drop
-        + Send
-        + 'static,
+    R: Threads + Wait + Clock + Eprint + Copy + Drop + Send + 'static,
 {
     let since = Instant::now(&rt)?;
     let service = Service::new(alloc, since, tally)?;
@@ -135,7 +132,7 @@ where
         service: service.another(),
         error,
         since,
-        clients,
+        mailbox,
     };
     let job = move || attend(rt, alloc, listener, panel);
     let Ok(_thread) = thread::spawn(&rt, job) else {

@@ -1,4 +1,4 @@
-//! A connection to a server, and by when what is under way on it has to be done.
+//! An operator's connection, and by when what is under way on it has to be done.
 
 ghost use Rattle.std.specs.Prelude.{◌≡◌, ◌+◌, ◌-◌, ◌/◌, ◌^◌, ◌<◌, ◌≤◌, min, IfNone, IfSome};
 ghost use Rattle.std.specs.Time.{instant_nanos};
@@ -9,23 +9,14 @@ use std::net::TcpStream;
 use std::rt::Clock;
 use std::time::{Duration, Instant};
 
-/// A connection whose reads and writes may have to be done by a moment.
-pub trait Connection: Read + Write + Drop {
-    /// From now on a read or a write that isn't done by this moment fails, as `WouldBlock` or `TimedOut`; with None it may
-    /// take any time.
-    fn bound_by(&mut self, until: Option<Instant>)
-        ensures written { Self.contents self.new ≡ Self.contents self.old }
-        ensures left { Self.remaining self.new ≡ Self.remaining self.old };
-}
-
 /// A TCP connection. What a limit of the system bounds is one read or one write, so each gets what is left of the time.
 #[derive(Drop)]
-pub struct TcpConnection<R: Clock + Drop> {
+pub(crate) struct TcpConnection<R: Clock + Drop> {
     rt: R,
     stream: TcpStream,
+    /// None where it may take any time.
     until: Option<Instant>,
-    /// The limit that the system has for a read and for a write, in milliseconds; 0 for none. It is set where it isn't the
-    /// one that is wanted, so mostly once.
+    /// The limit that the system has for a read and for a write, in milliseconds; 0 for none.
     armed: u64,
 }
 
@@ -99,11 +90,5 @@ impl<R: Clock + Drop> Write for TcpConnection<R> {
 
     fn flush(&mut self) -> io::Result<()> {
         Ok(())
-    }
-}
-
-impl<R: Clock + Drop> Connection for TcpConnection<R> {
-    fn bound_by(&mut self, until: Option<Instant>) {
-        self.until = until;
     }
 }

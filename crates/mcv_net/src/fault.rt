@@ -6,7 +6,7 @@ ghost use Rattle.std.specs.declared.io.ErrorKind.TheVariants.{OutOfMemory};
 ghost use Rattle.mcv_net.specs.declared.fault.NetFault.TheVariants.{Device, Memory as out_of_memory};
 ghost use Rattle.mcv_net.specs.Fault.{fault_number, net_fault};
 
-use mcv_proxy::ProxyFault;
+use mcv_serve::ProxyFault;
 use std::alloc::AllocError;
 use std::io;
 use thiserror::Error;

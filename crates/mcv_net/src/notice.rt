@@ -3,8 +3,8 @@
 use crate::fault::NetFault;
 use crate::service::Service;
 use mcv_pace::Pace;
-use mcv_proxy::Shortage;
 use mcv_spool::SpoolFault;
+use mcv_watch::Shortage;
 use std::alloc::{AllocError, Global};
 use std::fmt;
 use std::io::Eprint;
@@ -23,7 +23,7 @@ pub enum Notice<'a> {
     Refusing(SpoolFault),
     /// It takes them again.
     Taking,
-    /// There was no thread or no memory for a session.
+    /// There was no memory for a session.
     Unserved,
     /// Clients can't be accepted.
     Deaf,
@@ -62,7 +62,7 @@ impl<'a> fmt::Display for Notice<'a> {
             Notice::Unmarked(server) => write!(f, "mcv: server {server} answers again"),
             Notice::Refusing(fault) => write!(f, "mcv: the spool refuses records: {fault}"),
             Notice::Taking => write!(f, "mcv: the spool takes records again"),
-            Notice::Unserved => write!(f, "mcv: no thread for a session"),
+            Notice::Unserved => write!(f, "mcv: no memory for a session"),
             Notice::Deaf => write!(f, "mcv: clients can't be accepted"),
             Notice::Hearing => write!(f, "mcv: clients are accepted again"),
             Notice::Crowded(refused) => write!(f, "mcv: too many clients: {refused} refused"),

@@ -4,12 +4,12 @@ ghost use Rattle.std.specs.Prelude.{◌≡◌, IfErr};
 
 use crate::admin::serve_operators;
 use crate::fault::NetFault;
-use crate::gates::{Entrance, NetGates};
+use crate::launch::{Entrance, NetLaunch, Order};
 use crate::lines::{closed_line, print_line};
 use crate::notice::{Notice, Notices, StandardError};
 use crate::service::Service;
 use mcv_check::Accepted;
-use mcv_fleet::start;
+use mcv_poll::Mailbox;
 use mcv_spool::{Disk, FileDisk};
 use mcv_tally::Tally;
 use mcv_words::{RunOptions, Settings};
@@ -28,12 +28,34 @@ pub struct Listeners {
     pub admin: Option<TcpListener>,
 }
 
+/// Where an operator may ask from now on, if one may at this listener.
+fn service_of<R>(
+    rt: R,
+    alloc: Global,
+    admin: Option<TcpListener>,
+    order: (&Accepted, &Settings),
+    mailbox: &Arc<Mailbox>,
+    error: &StandardError<R>,
+) -> Result<Service, NetFault>
+where
+    R: Threads + Wait + Clock + Eprint + Copy + Drop + Send + 'static,
+{
+    let Some(listener) = admin else {
+        return Ok(Service::unasked());
+    };
+    let (accepted, settings) = order;
+    let hubs = settings.hubs.count as usize;
+    let tally = Tally::new(alloc, accepted.routes().servers(), hubs)?;
+    let mailbox = Arc::try_clone(mailbox)?;
+    serve_operators(rt, alloc, tally, listener, mailbox, error.another())
+}
+
 /// Serves clients of a listener as the settings say, by what the checker accepted and with the spool on a disk. Without a limit
-/// for servers it says on standard error what that may lead to. Once the spool is open and the workers run it prints `mcv listening <address> pending <n>`, where n is the number of records pending in the spool;
-/// once the last session has ended and the workers have nothing in hand, `mcv closed calls <n>`, where n is the number of
-/// calls begun. An operator may ask for that end (`mcv_admin`): then no more clients are accepted, those that are there are
-/// closed once they have the answers to what was read of them, and behind the time that the operator gave nothing is sent to
-/// servers any more, so that deletes which wait for them go to the spool.
+/// for servers it says on standard error what that may lead to. Once the spool is open and all threads run it prints
+/// `mcv listening <address> pending <n>`, where n is the number of records pending in the spool; once the last client has gone and
+/// no leg is queued, `mcv closed calls <n>`, where n is the number of calls begun. An operator may ask for that end (`mcv_admin`):
+/// then no more clients are accepted, those that are there are closed once they have the answers to what was read of them, and
+/// behind the time that the operator gave nothing is sent to servers any more, so that deletes which wait for them go to the spool.
 pub fn run_proxy<D, W, R>(
     rt: R,
     alloc: Global,
@@ -61,22 +83,20 @@ where
         error.note(Notice::Unlimited);
     }
     let Listeners { clients, admin } = listeners;
-    let service = match admin {
-        Some(listener) => {
-            let hubs = settings.hubs.count as usize;
-            let tally = Tally::new(alloc, accepted.routes().servers(), hubs)?;
-            let address = clients.local_addr()?;
-            serve_operators(rt, alloc, tally, listener, address, error.another())?
-        }
-        None => Service::unasked(),
-    };
+    let (mailbox, poll) = Mailbox::open(&rt, alloc)?;
+    let service = service_of(rt, alloc, admin, (&accepted, &settings), &mailbox, &error)?;
     let entrance = Entrance {
         listener: clients,
-        service,
-        accepted: Arc::try_clone(&accepted)?,
+        mailbox,
+        poll,
     };
-    let gates = NetGates::new(alloc, entrance, disk, settings, error.another(), &mut *out)?;
-    let report = start(rt, alloc, accepted, gates)?;
+    let order = Order {
+        accepted: Arc::try_clone(&accepted)?,
+        settings,
+        service,
+    };
+    let launch = NetLaunch::new(alloc, order, entrance, disk, error, &mut *out)?;
+    let report = mcv_serve::serve(&rt, alloc, accepted, launch)?;
     let line = closed_line(alloc, report)?;
     print_line(out, line.as_slice())?;
     Ok(())

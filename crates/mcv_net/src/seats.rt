@@ -3,14 +3,23 @@
 ghost use Rattle.std.specs.Prelude.{◌≡◌, ◌<◌, ◌+◌, None, Some, IfOk, if◌then◌else◌};
 ghost use Rattle.mcv_net.specs.Seats.{has_room, is_told};
 
+use crate::service::Service;
 use mcv_words::MaxClients;
 use std::alloc::{AllocError, Global};
 use std::sync::Arc;
 
-/// The seat of a client. It is free again once it is dropped.
-#[derive(Drop)]
+/// The seat of a client, which is counted as one while it is there. It is free again once it is dropped.
 pub struct Seat {
-    _shared: Arc<()>,
+    shared: Arc<()>,
+    service: Service,
+}
+
+impl Drop for Seat {
+    fn drop(self) {
+        let Seat { shared, service } = self;
+        drop(shared);
+        service.note_gone();
+    }
 }
 
 /// The seats of clients, and how many clients were refused one.
@@ -33,7 +42,7 @@ fn has_room(most: Option<MaxClients>, taken: u64) -> bool
 }
 
 /// Whether an operator is told of the refusal of this number, from 1.
-pub(crate) fn is_told(number: u64) -> bool
+fn is_told(number: u64) -> bool
     ensures { result ≡ is_told number }
 {
     number == 1 || number % 1000 == 0
@@ -50,16 +59,20 @@ impl Seats {
         })
     }
 
-    /// A seat; None where all are taken.
-    pub(crate) fn take(&self) -> Option<Seat> {
+    /// A seat, whose client is counted; None where all are taken.
+    pub(crate) fn take(&self, service: &Service) -> Option<Seat> {
         let taken = Arc::strong_count(&self.shared) - 1;
         if !has_room(self.most, taken as u64) {
             return None;
         }
-        match Arc::try_clone(&self.shared) {
-            Ok(shared) => Some(Seat { _shared: shared }),
-            Err(_) => None,
-        }
+        let Ok(shared) = Arc::try_clone(&self.shared) else {
+            return None;
+        };
+        service.note_accepted();
+        Some(Seat {
+            shared,
+            service: service.another(),
+        })
     }
 
     /// Counts a client that got none. How many these are, where an operator is to be told.

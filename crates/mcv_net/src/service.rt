@@ -3,10 +3,10 @@
 ghost use Rattle.std.specs.Prelude.{◌≡◌, ◌+◌, ◌*◌, min, None, IfNone, IfOk, is_some};
 ghost use Rattle.std.specs.Arc.{arc_value};
 ghost use Rattle.mcv_tally.specs.Tally.{listed, tallied};
-ghost use Rattle.mcv_net.specs.Service.{earlier, nearer};
 
 use mcv_admin::Health;
 use mcv_metrics::{ClientCounts, ServerCounts, Snapshot, SpoolCounts, WordCounts};
+use mcv_serve::Found;
 use mcv_tally::Tally;
 use std::alloc::{AllocError, Global};
 use std::sync::Arc;
@@ -49,24 +49,6 @@ fn end_behind(millis: u64, seconds: u64) -> u64
 {
     let more = seconds.saturating_mul(1000);
     millis.saturating_add(more).min(NEVER - 1)
-}
-
-/// The earlier one of two moments.
-fn nearer(a: Instant, b: Instant) -> Instant
-    ensures { result ≡ nearer a b }
-{
-    if a.duration_since(b).is_zero() { a } else { b }
-}
-
-/// The earlier one of two moments, of which each may be missing.
-pub(crate) fn earlier(one: Option<Instant>, other: Option<Instant>) -> Option<Instant>
-    ensures { result ≡ earlier one other }
-{
-    match (one, other) {
-        (Some(a), Some(b)) => Some(nearer(a, b)),
-        (Some(a), None) => Some(a),
-        (None, other) => other,
-    }
 }
 
 /// How many deletes of the spool these servers have performed.
@@ -219,10 +201,11 @@ impl Service {
         }
     }
 
-    /// So many deletes are pending at the start.
-    pub fn note_pending(&self, pending: u64) {
+    /// The spool was found so at the start.
+    pub fn note_found(&self, found: Found) {
         if let Some(state) = &self.state {
-            state.tally.spool.before.set(pending);
+            state.tally.spool.before.set(found.pending as u64);
+            state.tally.spool.slots.raise(found.slots as u64);
         }
     }
 

@@ -1,75 +1,111 @@
-//! The system's clock as a watch.
+//! What happens, as it is counted and as an operator is told of it.
 
 use crate::notice::{Notice, Notices};
 use crate::shortages::Shortages;
-use mcv_base::{Moment, Part, Request};
-use mcv_proxy::{Load, Shortage, Watch};
+use mcv_base::{Part, Request, ServerId};
+use mcv_check::Accepted;
 use mcv_session::DeskFault;
 use mcv_spool::SpoolFault;
-use mcv_tally::Tally;
-use std::rt::Clock;
+use mcv_tally::{ServerTally, Tally};
+use mcv_watch::{Load, Shortage, Watch};
 use std::sync::Arc;
-use std::thread;
-use std::time::{Duration, SystemTime, UNIX_EPOCH};
 
 /// Where what happens is counted.
 #[derive(Drop)]
 pub struct Counters {
-    /// Requests for which there was no place, if they are counted.
-    pub shortages: Option<Arc<Shortages>>,
+    /// Requests for which there was no place.
+    pub shortages: Shortages,
     /// What an operator may ask about; None where none may.
     pub tally: Option<Arc<Tally>>,
 }
 
-/// The system's clock, as one thread sees it, and what that thread notes.
+/// Counts what happens, and notes what an operator is to be told.
 #[derive(Drop)]
-pub struct SystemWatch<R: Clock + Drop, N: Notices> {
-    rt: R,
+pub struct SystemWatch<N: Notices> {
     notices: N,
     counters: Counters,
-    /// The last moment, which is given again where the clock can't be read.
-    last: u64,
+    /// Whose servers have the texts that an operator is told.
+    accepted: Arc<Accepted>,
 }
 
-impl<R: Clock + Drop, N: Notices> SystemWatch<R, N> {
-    pub fn new(rt: R, notices: N, counters: Counters) -> SystemWatch<R, N> {
+impl<N: Notices> SystemWatch<N> {
+    pub fn new(notices: N, counters: Counters, accepted: Arc<Accepted>) -> SystemWatch<N> {
         SystemWatch {
-            rt,
             notices,
             counters,
-            last: 0,
+            accepted,
         }
     }
 
-    /// Seconds since 1970 by the clock; None where it can't be read or is set before 1970.
-    fn seconds(&self) -> Option<u64> {
-        let now = SystemTime::now(&self.rt).ok()?;
-        let since = now.duration_since(UNIX_EPOCH).ok()?;
-        Some(since.as_secs())
-    }
-
-    /// Notes that a request had a reply in this chapter of the hub of this number.
-    fn note_chapter(&mut self, hub: usize, chapter: u64) {
-        let Some(shortages) = &self.counters.shortages else {
-            return;
-        };
-        if shortages.enter(hub, chapter) {
-            self.notices.note(Notice::Turned);
+    /// Where it is counted what a server does; None where nobody may ask.
+    fn server(&self, server: ServerId) -> Option<&ServerTally> {
+        match &self.counters.tally {
+            Some(tally) => tally.server(server.0 as usize),
+            None => None,
         }
     }
 }
 
-impl<R: Clock + Drop, N: Notices> Watch for SystemWatch<R, N> {
-    fn moment(&mut self) -> Moment {
-        if let Some(seconds) = self.seconds() {
-            self.last = seconds;
+impl<N: Notices> Watch for SystemWatch<N> {
+    fn note_asked(&mut self, request: &Request) {
+        let Some(tally) = &self.counters.tally else {
+            return;
+        };
+        if let Request::Ask(ask) = request {
+            tally.note_asked(ask.op, ask.keys.len());
         }
-        Moment(self.last)
     }
 
-    fn pause(&mut self) {
-        thread::sleep(&self.rt, Duration::from_millis(100));
-        self.notices.catch_up();
+    fn note_answer(&mut self, request: &Request, answer: &Result<Vec<Part>, DeskFault>) {
+        let Some(tally) = &self.counters.tally else {
+            return;
+        };
+        if let Request::Ask(_) = request {
+            tally.note_answer(answer);
+        }
+    }
+
+    fn note_sent(&mut self, server: ServerId) {
+        if let Some(tally) = self.server(server) {
+            tally.sent.more();
+        }
+    }
+
+    fn note_lost(&mut self, server: ServerId) {
+        if let Some(tally) = self.server(server) {
+            tally.lost.more();
+        }
+    }
+
+    fn note_marked(&mut self, server: ServerId) {
+        if let Some(tally) = self.server(server) {
+            tally.marked.more();
+        }
+        if let Some(text) = self.accepted.routes().servers().text(server) {
+            self.notices.note(Notice::Marked(text));
+        }
+    }
+
+    fn note_unmarked(&mut self, server: ServerId) {
+        if let Some(tally) = self.server(server) {
+            tally.unmarked.more();
+        }
+        if let Some(text) = self.accepted.routes().servers().text(server) {
+            self.notices.note(Notice::Unmarked(text));
+        }
+    }
+
+    fn note_replayed(&mut self, server: ServerId) {
+        if let Some(tally) = self.server(server) {
+            tally.replayed.more();
+        }
+    }
+
+    fn note_spooled(&mut self, slots: usize) {
+        if let Some(tally) = &self.counters.tally {
+            tally.spool.spooled.more();
+            tally.spool.slots.raise(slots as u64);
+        }
     }
 
     fn note_refusing(&mut self, fault: SpoolFault) {
@@ -80,28 +116,23 @@ impl<R: Clock + Drop, N: Notices> Watch for SystemWatch<R, N> {
         self.notices.note(Notice::Taking);
     }
 
-    fn note_unserved(&mut self) {
-        self.notices.note(Notice::Unserved);
-    }
-
-    fn note_full(&mut self, hub: usize, shortage: Shortage) {
-        let Some(shortages) = &self.counters.shortages else {
-            return;
-        };
-        if let Some(refused) = shortages.more(hub, shortage) {
+    fn note_full(&mut self, hub: usize, shortage: Shortage, refused: u64) {
+        if let Some(refused) = self.counters.shortages.more(hub, shortage, refused) {
             self.notices.note(Notice::Full(shortage, refused));
         }
     }
 
-    fn note_load(&mut self, hub: usize, chapter: u64, load: Load) {
-        self.note_chapter(hub, chapter);
+    fn note_load(&mut self, hub: usize, load: Load) {
+        if self.counters.shortages.enter(hub, load.chapter) {
+            self.notices.note(Notice::Turned);
+        }
         let Some(tally) = &self.counters.tally else {
             return;
         };
         if let Some(hub) = tally.hub(hub) {
             hub.entries.set(load.entries);
             hub.bytes.set(load.bytes);
-            hub.turned.raise(chapter);
+            hub.turned.raise(load.chapter);
         }
     }
 
@@ -114,24 +145,15 @@ impl<R: Clock + Drop, N: Notices> Watch for SystemWatch<R, N> {
         }
     }
 
-    fn note_answer(&mut self, request: &Request, answer: &Result<Vec<Part>, DeskFault>) {
-        let Some(tally) = &self.counters.tally else {
-            return;
-        };
-        if let Request::Ask(ask) = request {
-            tally.note_answer(ask.op, answer);
-        }
+    fn note_unserved(&mut self) {
+        self.notices.note(Notice::Unserved);
     }
 
-    fn note_spooled(&mut self) {
-        if let Some(tally) = &self.counters.tally {
-            tally.spool.spooled.more();
-        }
+    fn looks_at_waiting(&self) -> bool {
+        self.counters.tally.is_some()
     }
 
-    fn note_slots(&mut self, slots: usize) {
-        if let Some(tally) = &self.counters.tally {
-            tally.spool.slots.raise(slots as u64);
-        }
+    fn catch_up(&mut self) {
+        self.notices.catch_up();
     }
 }

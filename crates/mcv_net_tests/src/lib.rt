@@ -4,8 +4,10 @@
 #[cfg(test)]
 mod chapters;
 #[cfg(test)]
-mod links;
+mod notices;
 #[cfg(test)]
-mod memory;
+mod routes;
 #[cfg(test)]
 mod sockets;
+#[cfg(test)]
+mod watch;

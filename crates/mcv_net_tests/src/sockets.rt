@@ -1,6 +1,6 @@
 //! A proxy between sockets of this machine.
 
-use crate::links::accepted_of;
+use crate::routes::accepted_of;
 use mcv_check::Accepted;
 use mcv_net::{Listeners, SpoolFiles, listen, run_proxy};
 use mcv_words::{Hubs, InRange, ServerTimeout, Sessions, Settings, Window};

@@ -1,111 +1,70 @@
 //! Clients and servers over `mio`.
 
-ghost use Rattle.std.specs.Prelude.{◌≤◌, ℕ, IfOk};
-ghost use Rattle.mcv_loop.specs.Took.{IsWithin};
-
-use crate::spooler::Mailbox;
+use crate::door::{Door, Visitor};
+use crate::due::shorter;
+use crate::entrance::{Entrance, MOST_SAID};
+use crate::mailbox::Mailbox;
+use crate::names::Names;
+use crate::server_stream::ServerStream;
+use crate::servers::{Attempt, Servers};
+use crate::tokens::{LISTENER, Tokens};
 use mcv_base::{Moment, ServerId};
 use mcv_hub::{Pass, Past};
-use mcv_loop::{Ready, Source, SourceFault, Sources, Took};
+use mcv_loop::{Ready, Source, SourceFault, Sources};
 use mcv_turn::HeldLeg;
 use mio::event::Event;
-use mio::net::{TcpListener, TcpStream};
+use mio::net::TcpStream;
 use mio::{Events, Interest, Poll, Token};
 use std::alloc::{AllocError, Global};
-use std::collections::HashMap;
-use std::io;
-use std::io::{ErrorKind, Read, Write};
-use std::net::{Net, SocketAddr};
+use std::net::Net;
 use std::rt::Clock;
 use std::sync::{Arc, Wait};
 use std::time::{Duration, Instant, SystemTime, UNIX_EPOCH};
-
-/// The token of the listener.
-const LISTENER: usize = 0;
-
-/// The token of the waker by which the spool's thread wakes the poll.
-pub(crate) const WAKER: usize = 1;
-
-/// The first token of a connection to a server.
-const FIRST: usize = 2;
+use std::{io, net};
 
 /// The most events of one wait.
 const EVENTS: usize = 1_024;
 
-/// The most clients that are accepted in a row.
-const MOST_ACCEPTED: usize = 256;
-
 /// The most that becomes ready in one wait, but for the spool's answers.
-const MOST_READY: usize = 2 * EVENTS + MOST_ACCEPTED;
+const MOST_READY: usize = 2 * EVENTS + MOST_SAID;
 
-/// Where a loop's clients come, and where its servers are.
+/// Where a loop's clients come and who lets them in, where its servers are, and by what it is woken.
 #[derive(Drop)]
-pub struct Sockets {
+pub struct Sockets<D: Door> {
+    /// The poll of the mailbox, as `Mailbox::open` gave it.
     pub poll: Poll,
-    pub listener: TcpListener,
-    /// The addresses of each server.
-    pub addresses: Vec<Vec<SocketAddr>>,
+    pub mailbox: Arc<Mailbox>,
+    pub listener: net::TcpListener,
+    pub door: D,
+    /// The servers, by number.
+    pub names: Arc<Names>,
 }
 
-/// Sockets that don't wait, and the spool's mailbox.
+/// Sockets that don't wait, the spool's mailbox, and the names of servers. The system has what is registered and what is ready, so that
+/// no clause says what that is.
 #[derive(Drop)]
-pub struct PollSources<R: Net + Clock + Wait + Copy + Drop> {
+pub struct PollSources<R: Net + Clock + Wait + Copy + Drop, D: Door> {
     rt: R,
     poll: Poll,
     events: Events,
-    listener: TcpListener,
-    /// Clients may wait that weren't accepted.
-    accepts: bool,
-    /// So many were accepted in a row that more are likely.
-    is_more: bool,
-    clients: HashMap<u64, TcpStream>,
-    /// The number of the next client.
-    next: u64,
-    /// The connections to all servers, hub after hub.
-    lines: Vec<Option<TcpStream>>,
-    /// The addresses of each server.
-    addresses: Vec<Vec<SocketAddr>>,
+    tokens: Tokens,
+    entrance: Entrance<D>,
+    servers: Servers,
     mailbox: Arc<Mailbox>,
 }
 
-/// What came of a read or a write.
-fn took(outcome: io::Result<usize>) -> Took
-    ensures { (most : ℕ) → IfOk outcome (λ count. count ≤ most) → IsWithin most result }
-{
-    match outcome {
-        Ok(0) => Took::Over,
-        Ok(count) => Took::Bytes(count),
-        Err(error) => match error.kind() {
-            ErrorKind::WouldBlock | ErrorKind::Interrupted => Took::NotNow,
-            _ => Took::Over,
-        },
-    }
-}
-
-/// How many connections to servers there are, of which each hub has one to each server.
-#[derive(Clone, Copy)]
-struct Lines {
-    count: usize,
-    servers: usize,
-}
-
-/// The connection of this token.
-fn source_of(lines: Lines, token: usize) -> Option<Source> {
-    let number = token.checked_sub(FIRST)?;
-    if number >= lines.count {
-        return Some(Source::Client((number - lines.count) as u64));
-    }
-    let hub = number.checked_div(lines.servers)?;
-    let server = u32::try_from(number.checked_rem(lines.servers)?).ok()?;
-    Some(Source::Server {
-        hub,
-        server: ServerId(server),
-    })
+/// Whether an event says that the other side sends no more.
+fn has_ended(event: &Event) -> bool {
+    event.is_error() || event.is_read_closed()
 }
 
 /// Puts what an event says of a connection behind `ready`.
-fn note_event(source: Source, event: &Event, ready: &mut Vec<Ready>) -> Result<(), AllocError> {
-    if event.is_error() || event.is_read_closed() {
+fn note_event<C: Drop>(
+    source: Source,
+    event: &Event,
+    ready: &mut Vec<Ready<C>>,
+) -> Result<(), AllocError> {
+    if has_ended(event) {
         ready.push(Ready::End(source))?;
     } else if event.is_readable() {
         ready.push(Ready::Read(source))?;
@@ -116,142 +75,118 @@ fn note_event(source: Source, event: &Event, ready: &mut Vec<Ready>) -> Result<(
     Ok(())
 }
 
-/// Puts what events say of connections behind `ready`. Whether one says that clients wait.
-fn note_events(lines: Lines, events: &Events, ready: &mut Vec<Ready>) -> Result<bool, AllocError> {
-    let mut clients_wait = false;
-    for event in events.iter() {
-        let token = event.token().0;
-        if token == LISTENER {
-            clients_wait = true;
-        } else if let Some(source) = source_of(lines, token) {
-            note_event(source, event, ready)?;
-        }
-    }
-    Ok(clients_wait)
-}
-
-impl<R: Net + Clock + Wait + Copy + Drop> PollSources<R> {
-    /// A listener's clients, and a loop's servers, for so many hubs. An error is the system's, or that memory ran out.
+impl<R: Net + Clock + Wait + Copy + Drop, D: Door> PollSources<R, D> {
+    /// A listener's clients, and a loop's servers for so many hubs. The names of servers are looked up first, which may take a while. An
+    /// error is the system's, or that memory ran out.
     pub fn new(
         rt: R,
         alloc: Global,
-        sockets: Sockets,
+        sockets: Sockets<D>,
         hubs: usize,
-        mailbox: Arc<Mailbox>,
-    ) -> io::Result<PollSources<R>> {
+    ) -> io::Result<PollSources<R, D>> {
         let Sockets {
             poll,
-            mut listener,
-            addresses,
+            mailbox,
+            listener,
+            door,
+            names,
         } = sockets;
-        poll.registry()
-            .register(&mut listener, Token(LISTENER), Interest::READABLE)?;
-        let mut lines = Vec::new(alloc);
-        for _hub in 0..hubs {
-            for _server in 0..addresses.len() {
-                lines.push(None).map_err(AllocError::from)?;
-            }
-        }
+        let Some(tokens) = Tokens::new(hubs, names.count()) else {
+            return Err(io::Error::from(io::ErrorKind::InvalidInput));
+        };
         Ok(PollSources {
             rt,
+            entrance: Entrance::new(&poll, listener, door)?,
             poll,
             events: Events::with_capacity(alloc, EVENTS)?,
-            listener,
-            accepts: false,
-            is_more: false,
-            clients: HashMap::new(alloc),
-            next: 0,
-            lines,
-            addresses,
+            tokens,
+            servers: Servers::new(&rt, alloc, names, tokens.lines)?,
             mailbox,
         })
     }
 
-    /// Where the connection to a server for a hub is among all.
-    fn place(&self, hub: usize, server: ServerId) -> Option<usize> {
-        hub.checked_mul(self.addresses.len())?
-            .checked_add(server.0 as usize)
-    }
-
-    /// Accepts the clients that wait, up to a limit. One that can't be registered is dropped; while none can be accepted, for want of
-    /// descriptors, it is tried again with each wait.
-    fn accept(&mut self, ready: &mut Vec<Ready>) {
-        self.is_more = false;
-        for _client in 0..MOST_ACCEPTED {
-            match self.listener.accept() {
-                Ok((stream, _address)) => {
-                    let _ = self.admit(stream, ready);
-                }
-                Err(error) => {
-                    self.accepts = error.kind() != ErrorKind::WouldBlock;
-                    return;
-                }
+    /// Keeps in mind what an event says of a connection to a server: that it was made, or has come to its end.
+    fn note_server(&mut self, hub: usize, server: ServerId, event: &Event) {
+        if has_ended(event) {
+            self.servers.ask(&self.rt, server);
+        } else if event.is_writable() {
+            if let Some(line) = self.tokens.line_of(hub, server) {
+                self.servers.note(line, Attempt::Made);
             }
         }
-        self.is_more = true;
     }
 
-    fn admit(&mut self, stream: TcpStream, ready: &mut Vec<Ready>) -> io::Result<()> {
-        let mut stream = stream;
-        // Without it small writes may wait, but the connection serves all the same.
-        let _ = stream.set_nodelay(true);
-        let number = self.next;
-        let first = FIRST.saturating_add(self.lines.len());
-        let token = first.saturating_add(usize::try_from(number).unwrap_or(usize::MAX));
-        let both = Interest::READABLE | Interest::WRITABLE;
-        self.poll
-            .registry()
-            .register(&mut stream, Token(token), both)?;
-        self.clients
-            .insert(number, stream)
-            .map_err(AllocError::from)?;
-        self.next = number.saturating_add(1);
-        ready.push(Ready::Client(number)).map_err(AllocError::from)?;
+    /// Puts what an event says behind `ready`.
+    fn note(
+        &mut self,
+        event: &Event,
+        ready: &mut Vec<Ready<Visitor<D::Seat>>>,
+    ) -> Result<(), AllocError> {
+        let token = event.token().0;
+        if token == LISTENER {
+            self.entrance.note_waiting();
+        }
+        let Some(source) = self.tokens.source_of(token) else {
+            return Ok(());
+        };
+        if let Source::Server { hub, server } = source {
+            self.note_server(hub, server, event);
+        }
+        note_event(source, event, ready)
+    }
+
+    /// Puts what the events say behind `ready`.
+    fn note_events(&mut self, ready: &mut Vec<Ready<Visitor<D::Seat>>>) -> Result<(), AllocError> {
+        for place in 0..EVENTS {
+            let event = match self.events.iter().as_slice().get(place) {
+                Some(event) => *event,
+                None => return Ok(()),
+            };
+            self.note(&event, ready)?;
+        }
         Ok(())
     }
 
-    /// What the events say is ready.
-    fn look(&mut self, ready: &mut Vec<Ready>) -> Result<(), AllocError> {
-        let lines = Lines {
-            count: self.lines.len(),
-            servers: self.addresses.len(),
-        };
-        if note_events(lines, &self.events, ready)? {
-            self.accepts = true;
-        }
-        if self.accepts {
-            self.accept(ready);
-        }
+    /// Puts what is ready behind `ready`.
+    fn look(&mut self, ready: &mut Vec<Ready<Visitor<D::Seat>>>) -> Result<(), AllocError> {
+        self.note_events(ready)?;
+        self.entrance.look(&self.rt, ready)?;
         self.mailbox.take_answers(&self.rt, ready)
     }
 
-    /// Begins a connection to the first address of a server that takes one.
-    fn begin(&self, server: ServerId) -> Option<TcpStream> {
-        for address in self.addresses.get(server.0 as usize)? {
-            if let Ok(stream) = TcpStream::connect(&self.rt, *address) {
-                let _ = stream.set_nodelay(true);
-                return Some(stream);
-            }
+    /// Has the poll report a connection both ways under a token. Whether it will.
+    fn register(&self, stream: &mut TcpStream, token: usize) -> bool {
+        let both = Interest::READABLE | Interest::WRITABLE;
+        let registry = self.poll.registry();
+        registry.register(stream, Token(token), both).is_ok()
+    }
+
+    /// Begins a connection to a server, whose place is this one among those to all servers.
+    fn open(&mut self, line: usize, token: usize, server: ServerId) -> Option<ServerStream> {
+        let (address, mut stream) = self.servers.begin(&self.rt, server)?;
+        if !self.register(&mut stream, token) {
+            return None;
         }
-        None
+        self.servers.note(line, Attempt::Begun(address));
+        Some(ServerStream::new(stream))
     }
 }
 
-impl<R: Net + Clock + Wait + Copy + Drop> Sources for PollSources<R> {
+impl<R: Net + Clock + Wait + Copy + Drop, D: Door> Sources for PollSources<R, D> {
+    type Client = Visitor<D::Seat>;
+
+    type Server = ServerStream;
+
     fn wait(
         &mut self,
         _pass: &Pass,
         most: Option<Duration>,
-        ready: &mut Vec<Ready>,
+        ready: &mut Vec<Ready<Visitor<D::Seat>>>,
     ) -> Result<(), SourceFault> {
         if ready.reserve(MOST_READY).is_err() {
             return Err(SourceFault::Memory);
         }
-        let most = if self.is_more {
-            Some(Duration::from_millis(0))
-        } else {
-            most
-        };
+        let most = shorter(most, self.entrance.most_wait());
         if self.poll.poll(&mut self.events, most).is_err() {
             return Err(SourceFault::Failed);
         }
@@ -261,86 +196,23 @@ impl<R: Net + Clock + Wait + Copy + Drop> Sources for PollSources<R> {
         }
     }
 
-    fn read(&mut self, _pass: &Pass, source: Source, room: &mut [u8]) -> Took {
-        match source {
-            Source::Client(number) => match self.clients.get(&number) {
-                Some(stream) => took((&*stream).read(room)),
-                None => Took::Over,
-            },
-            Source::Server { hub, server } => {
-                let Some(place) = self.place(hub, server) else {
-                    return Took::Over;
-                };
-                match self.lines.get(place) {
-                    Some(Some(stream)) => took((&*stream).read(room)),
-                    _ => Took::Over,
-                }
-            }
-        }
-    }
-
-    fn write(&mut self, _pass: &Pass, source: Source, bytes: &[u8]) -> Took {
-        if bytes.is_empty() {
-            return Took::NotNow;
-        }
-        match source {
-            Source::Client(number) => match self.clients.get(&number) {
-                Some(stream) => took((&*stream).write(bytes)),
-                None => Took::Over,
-            },
-            Source::Server { hub, server } => {
-                let Some(place) = self.place(hub, server) else {
-                    return Took::Over;
-                };
-                match self.lines.get(place) {
-                    Some(Some(stream)) => took((&*stream).write(bytes)),
-                    _ => Took::Over,
-                }
-            }
-        }
-    }
-
-    fn connect(&mut self, _pass: &Pass, hub: usize, server: ServerId) -> bool {
-        let Some(place) = self.place(hub, server) else {
-            return false;
-        };
-        let Some(stream) = self.begin(server) else {
-            return false;
-        };
-        let mut stream = stream;
-        let both = Interest::READABLE | Interest::WRITABLE;
-        let token = Token(FIRST.saturating_add(place));
-        if self
-            .poll
-            .registry()
-            .register(&mut stream, token, both)
-            .is_err()
-        {
-            return false;
-        }
-        match self.lines.get_mut(place) {
-            Some(line) => {
-                *line = Some(stream);
-                true
-            }
+    fn attend(&mut self, _pass: &Pass, client: &mut Visitor<D::Seat>, number: usize) -> bool {
+        match self.tokens.token_of(Source::Client(number)) {
+            Some(token) => self.register(&mut client.stream, token),
             None => false,
         }
     }
 
-    fn close(&mut self, _pass: &Pass, source: Source) {
-        match source {
-            Source::Client(number) => {
-                let _ = self.clients.remove(&number);
-            }
-            Source::Server { hub, server } => {
-                let Some(place) = self.place(hub, server) else {
-                    return;
-                };
-                if let Some(line) = self.lines.get_mut(place) {
-                    *line = None;
-                }
-            }
+    fn connect(&mut self, _pass: &Pass, hub: usize, server: ServerId) -> Option<ServerStream> {
+        let line = self.tokens.line_of(hub, server)?;
+        let token = self.tokens.token_of(Source::Server { hub, server })?;
+        let last = self.servers.attempt(line);
+        self.servers.renew(&self.rt, server, last);
+        let opened = self.open(line, token, server);
+        if last != Attempt::Untried || opened.is_none() {
+            self.servers.ask(&self.rt, server);
         }
+        opened
     }
 
     fn store(&mut self, _pass: &Pass, hub: usize, held: HeldLeg) -> bool {

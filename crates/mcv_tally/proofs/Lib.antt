@@ -1,2 +1,3 @@
 mod CountedWords
 pub mod Texts
+pub mod CountedWordsAreShown

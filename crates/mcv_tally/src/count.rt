@@ -18,7 +18,12 @@ impl Count {
 
     /// Once more.
     pub fn more(&self) {
-        let _before = self.number.fetch_add(1, Ordering::SeqCst);
+        self.add(1);
+    }
+
+    /// So many times more.
+    pub fn add(&self, times: u64) {
+        let _before = self.number.fetch_add(times, Ordering::SeqCst);
     }
 
     /// How often up to now.

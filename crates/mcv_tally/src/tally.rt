@@ -68,9 +68,9 @@ pub struct ClientTally {
 /// What is counted while a proxy runs.
 #[derive(Drop)]
 pub struct Tally {
-    /// Calls that were answered, by operation.
+    /// Calls that clients asked for, by operation: one for each key of a request.
     pub calls: Vec<WordTally>,
-    /// Replies to these, by outcome.
+    /// Replies to those of them that were answered, by outcome.
     pub replies: Vec<WordTally>,
     /// Requests that were refused, by cause.
     pub refusals: Vec<WordTally>,
@@ -80,6 +80,7 @@ pub struct Tally {
     /// In the order of the hubs' numbers.
     pub hubs: Vec<HubTally>,
     pub clients: ClientTally,
+    pub ghost words: { (tallied_words calls.items ≡ operations) × (tallied_words replies.items ≡ outcomes) × (tallied_words refusals.items ≡ causes) },
 }
 
 /// How much later and more often one thing happened than what comes behind it. That is read first, so that none of the
@@ -256,9 +257,6 @@ fn waiting_at(hubs: &[HubTally], server: usize) -> u64 {
 impl Tally {
     /// Nothing yet, of these servers, of so many hubs and of no clients.
     pub fn new(alloc: Global, servers: &Servers, hubs: usize) -> Result<Tally, AllocError>
-        ensures calls { IfOk result (λ tally. tallied_words tally.calls.items ≡ operations) }
-        ensures replies { IfOk result (λ tally. tallied_words tally.replies.items ≡ outcomes) }
-        ensures refusals { IfOk result (λ tally. tallied_words tally.refusals.items ≡ causes) }
         ensures servers { IfOk result (λ tally. tallied tally.servers.items ≡ servers.now) }
         ensures hubs { IfOk result (λ tally. vec_len tally.hubs ≡ hubs) }
         ensures levels { IfOk result (λ tally. HaveLevels (length servers.now) tally.hubs.items) }
@@ -274,16 +272,21 @@ impl Tally {
         })
     }
 
-    /// Counts what a request for this operation came to: a call and its reply for each key, or a refusal.
-    pub fn note_answer(&self, op: Op, answer: &Result<Vec<Part>, DeskFault>) {
+    /// Counts the calls of a request for this operation, one for each of so many keys, as they are asked for: those to a server
+    /// that never answers are among them.
+    pub fn note_asked(&self, op: Op, keys: usize) {
+        words::count_word(self.calls.as_slice(), op.name(), keys as u64);
+    }
+
+    /// Counts what a request came to: a reply for each key, or a refusal.
+    pub fn note_answer(&self, answer: &Result<Vec<Part>, DeskFault>) {
         match answer {
             Ok(replies) => {
                 for reply in replies {
-                    words::count_word(self.calls.as_slice(), op.name());
-                    words::count_word(self.replies.as_slice(), reply_word(reply));
+                    words::count_word(self.replies.as_slice(), reply_word(reply), 1);
                 }
             }
-            Err(fault) => words::count_word(self.refusals.as_slice(), cause_word(*fault)),
+            Err(fault) => words::count_word(self.refusals.as_slice(), cause_word(*fault), 1),
         }
     }
 

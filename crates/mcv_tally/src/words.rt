@@ -1,6 +1,7 @@
 //! What is counted by words.
 
 ghost use Rattle.std.specs.Prelude.{◌≡◌, IfOk, map, string_bytes};
+ghost use Rattle.std.specs.List.{Contains};
 ghost use Rattle.mcv_base.specs.Reply.{fixed_value, part_value, reply_value};
 ghost use Rattle.mcv_tally.specs.Words.{cause_word, counted_words, reply_word, tallied_words};
 
@@ -122,11 +123,13 @@ pub(crate) fn tallies_of(alloc: Global, words: &[&str]) -> Result<Vec<WordTally>
     Ok(tallies)
 }
 
-/// Counts a word once more, if it is one of these.
-pub(crate) fn count_word(tallies: &[WordTally], word: &str) {
+/// Counts a word, which is one of these, so many times more.
+pub(crate) fn count_word(tallies: &[WordTally], word: &str, times: u64)
+    requires { Contains (tallied_words tallies.now) word.now }
+{
     for tally in tallies {
         if tally.word.as_str() == word {
-            tally.count.more();
+            tally.count.add(times);
             return;
         }
     }

@@ -6,3 +6,4 @@ pub mod Receipts
 pub mod Routed
 pub mod Runs
 pub mod Taken
+pub mod Told

@@ -16,6 +16,7 @@ use Rattle.mcv_hub.specs.Events.{IsHubEvent}
 use Rattle.mcv_hub.specs.Gate.{IsHubBegun}
 use Rattle.mcv_hub.specs.State.{HubView}
 use Rattle.mcv_turn.specs.Flights.{IsNext, IsReplayed, is_marked}
+use Rattle.mcv_turn.specs.declared.arrival.Arrival.{Arrival}
 use Rattle.mcv_turn.specs.declared.arrival.NoReply.{NoReply}
 use Rattle.mcv_turn.specs.declared.arrival.NoReply.TheVariants as no_reply
 use Rattle.mcv_turn.specs.declared.flight.Departure.{Departure}
@@ -53,13 +54,11 @@ pub record IsReported (server : ServerId) (leg : LegId) (reply : Result ReplyVal
   pub result : Result Step CoreFault
   pub landing : IsLanding server leg reply old new result
 
--- the leg, which the spool has as the record of this number, was performed by its server
-pub record WasPerformed (number : ℕ) (leg : LegId) (old new : HubView) : Type 0 where
-  pub stored : records_of old.core leg.0 ≡ Some number
-  pub reply : Result ReplyValue NoReply
-  pub server : ServerId
+-- the leg that arrived, which the spool has as the record of this number, was performed by its server
+pub record WasPerformed (number : ℕ) (a : Arrival) (old new : HubView) : Type 0 where
+  pub stored : records_of old.core a.leg.0 ≡ Some number
   pub step : Step
-  pub landing : IsLanding server leg reply old new (Ok step)
+  pub landing : IsLanding a.server a.leg a.reply old new (Ok step)
   pub performed : step.change ≡ Performed
 
 -- ---- a leg comes in flight

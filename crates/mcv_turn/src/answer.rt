@@ -12,7 +12,7 @@ use std::sync::Arc;
 /// Who asks a request.
 #[derive(Clone, Copy, Debug, PartialEq, Eq)]
 pub enum Asker {
-    /// The session of this number.
+    /// A session: the number is one that each of its requests gets anew.
     Session(u64),
     /// A request of several hubs, for its key of this number alone. No other such request has its serial number.
     Key {

@@ -1,23 +1,31 @@
 //! The desk of a loop at one hub.
 
-ghost use Rattle.std.specs.Prelude.{◌≡◌, ◌||◌, ℕ, [], None, IfNone, IfOk, IfSome, OnErr, OnOk, not};
+ghost use Rattle.slab.specs.Slab.{slab_len};
+ghost use Rattle.std.specs.Prelude.{◌≡◌, ◌↔◌, ◌<◌, ◌||◌, ℕ, [], false, true, None, IfNone, IfOk, IfSome, OnErr, OnOk, not};
 ghost use Rattle.std.specs.Arc.{arc_value};
+ghost use Rattle.std.specs.VecDeque.{deque_len};
+ghost use Rattle.mcv_core.specs.View.{core_view};
+ghost use Rattle.mcv_events.specs.QueuedLegs.{queued_legs};
 ghost use Rattle.mcv_hub.specs.Gate.{IsGate, is_closed};
 ghost use Rattle.mcv_hub.specs.declared.gate.Gate.{Gate as HubGate};
 ghost use Rattle.mcv_session.specs.Desk.{answer_value};
 ghost use Rattle.mcv_text.specs.Request.{request_value};
 ghost use Rattle.mcv_turn.specs.Answers.{IsAnswer};
 ghost use Rattle.mcv_turn.specs.OpenRequests.{AreSameOpen, Closes, Opens, open_at};
+ghost use Rattle.mcv_turn.specs.Refusals.{WereRefused};
 ghost use Rattle.mcv_turn.specs.Runs.{IsTurn, Runs, SendsMore};
+ghost use Rattle.mcv_turn.specs.Shown.{AreCounts, IsLoad, TellsMarks, TellsPerformed, chapter_behind, is_known_marked};
 
 use crate::answer::{Answer, Asker};
-use crate::came::{Came, Gives};
+use crate::came::{Came, Gives, Performed};
 use crate::hub_routes::HubRoutes;
 use crate::kept::Kept;
 use crate::notes::Notes;
 use crate::question::Question;
 use crate::questions::{awaits_at, begin_at, look_at_all, next_done, take_at};
+use crate::refusals::Refusals;
 use crate::servers::Servers;
+use crate::shown::{load_of, waiting_of};
 use crate::spooling::texts_of;
 use mcv_base::{CallId, Request, ServerId};
 use mcv_core::Dispatcher;
@@ -48,6 +56,9 @@ pub struct LoopDesk<'a, B: HubLedger, T: Ledger> {
     notes: Notes,
     /// Requests were asked since the last turn.
     is_asked: bool,
+    refusals: Refusals<B>,
+    /// How many chapters its turns have begun: the number of the hub's chapter, where nothing else begins one.
+    chapter: u64,
 }
 
 /// Makes room for one question more, and for a call that it awaits.
@@ -82,6 +93,8 @@ impl<'a, B: HubLedger, T: Ledger> LoopDesk<'a, B, T> {
             done: VecDeque::new(alloc),
             notes: Notes::new(alloc, texts, servers),
             is_asked: false,
+            refusals: Refusals::new(),
+            chapter: 0,
         })
     }
 
@@ -115,47 +128,87 @@ impl<'a, B: HubLedger, T: Ledger> LoopDesk<'a, B, T> {
     }
 
     /// How many requests are open: asked, and not answered yet.
-    pub fn open(&self) -> usize {
+    pub fn open(&self) -> usize
+        ensures { result ≡ slab_len self.now.questions }
+    {
         self.questions.len()
     }
 
     /// Whether requests were asked since the last turn.
-    pub fn is_asked(&self) -> bool {
+    pub fn is_asked(&self) -> bool
+        ensures { result ≡ self.now.is_asked }
+    {
         self.is_asked
     }
 
     /// Whether requests wait to begin.
-    pub fn waits(&self) -> bool {
+    pub fn waits(&self) -> bool
+        ensures { (result ≡ true) ↔ (0 < deque_len self.now.entering) }
+    {
         !self.entering.is_empty()
     }
 
-    /// Whether the server was marked in the last turn.
-    pub fn is_marked(&self, server: ServerId) -> bool {
+    /// Whether the server was marked at the end of the last turn.
+    pub fn is_marked(&self, server: ServerId) -> bool
+        ensures { result ≡ is_known_marked self.now.notes.servers server }
+    {
         self.notes.servers.is_marked(server)
     }
 
     /// The seat, and the receipts that were kept.
-    pub fn into_parts(self) -> (Seat<B, T>, Vec<Receipt>) {
+    pub fn into_parts(self) -> (Seat<B, T>, Vec<Receipt>)
+        ensures seat { result.0 ≡ self.entry.seat }
+        ensures receipts { result.1 ≡ self.entry.kept.receipts }
+    {
         let LoopDesk { seat, kept, .. } = self;
         (seat, kept.receipts)
     }
 
     /// One turn under the hub's lock: later calls have the era of the moment; what came is reported, in its order; requests begin,
     /// where the chapter lets them; legs come in flight, until none waits or as many are in flight as may be; and the replies that
-    /// are there are taken. The same requests are open as before.
+    /// are there are taken. The same requests are open as before. What is noted of the hub is so at the turn's end; the number of its
+    /// chapter is that of those which this desk has begun.
     pub fn turn(&mut self, guard: &mut Guard<'_, B, T>, came: Came, gives: &mut Gives)
         ensures turn { IsTurn guard.old guard.new came.arrivals.items gives.old.flights.items gives.new.flights.items }
         ensures same { AreSameOpen self.old.questions self.new.questions }
+        ensures performed { TellsPerformed guard.old came.arrivals.items gives.old.performed.items gives.new.performed.items }
+        ensures marks { TellsMarks guard.new gives.old.marks.items gives.new.marks.items }
+        ensures refused { WereRefused B.opened gives.new.refused }
+        ensures load { IsLoad self.new.chapter guard.new gives.new.load }
+        ensures uncounted { came.counts ≡ false → gives.new.waiting ≡ None }
+        ensures waiting { IfSome gives.new.waiting (λ v. AreCounts guard.new v.items) }
+        ensures queued { gives.new.queued ≡ queued_legs (core_view guard.new.core).rows }
     {
-        let (may_store, waited) = (came.may_store, came.waited);
+        let (may_store, waited, counts) = (came.may_store, came.waited, came.counts);
         self.is_asked = false;
         self.note_all(guard, came, &mut gives.performed);
         self.go_round(guard, may_store, waited, gives);
+        self.show(guard, counts, gives);
+    }
+
+    /// Tells what there is to be noted of the hub.
+    fn show(&mut self, guard: &Guard<'_, B, T>, counts: bool, gives: &mut Gives)
+        ensures same { self.new.questions ≡ self.old.questions }
+        ensures flights { gives.new.flights ≡ gives.old.flights }
+        ensures performed { gives.new.performed ≡ gives.old.performed }
+        ensures marks { TellsMarks guard.now gives.old.marks.items gives.new.marks.items }
+        ensures refused { WereRefused B.opened gives.new.refused }
+        ensures load { IsLoad self.new.chapter guard.now gives.new.load }
+        ensures uncounted { counts ≡ false → gives.new.waiting ≡ None }
+        ensures waiting { IfSome gives.new.waiting (λ v. AreCounts guard.now v.items) }
+        ensures queued { gives.new.queued ≡ queued_legs (core_view guard.now.core).rows }
+    {
+        self.notes.servers.note_marks(guard, &mut gives.marks);
+        gives.refused = self.refusals.take();
+        gives.load = load_of(guard, self.chapter);
+        gives.waiting = waiting_of(self.alloc, guard, counts);
+        gives.queued = guard.core().queued();
     }
 
     /// Reports what came.
-    fn note_all(&mut self, guard: &mut Guard<'_, B, T>, came: Came, performed: &mut Vec<u64>)
+    fn note_all(&mut self, guard: &mut Guard<'_, B, T>, came: Came, performed: &mut Vec<Performed>)
         ensures run { Runs guard.old came.arrivals.items [] guard.new }
+        ensures performed { TellsPerformed guard.old came.arrivals.items performed.old.items performed.new.items }
         ensures same { AreSameOpen self.old.questions self.new.questions }
     {
         let Came {
@@ -185,6 +238,7 @@ impl<'a, B: HubLedger, T: Ledger> LoopDesk<'a, B, T> {
     )
         ensures sends { SendsMore guard.old guard.new gives.old.flights.items gives.new.flights.items }
         ensures same { AreSameOpen self.old.questions self.new.questions }
+        ensures others { (gives.new.performed ≡ gives.old.performed) × (gives.new.marks ≡ gives.old.marks) }
     {
         for _round in 0..TURNS {
             if self.go_on(guard, may_store, waited, gives) {
@@ -203,6 +257,7 @@ impl<'a, B: HubLedger, T: Ledger> LoopDesk<'a, B, T> {
     ) -> bool
         ensures sends { SendsMore guard.old guard.new gives.old.flights.items gives.new.flights.items }
         ensures same { AreSameOpen self.old.questions self.new.questions }
+        ensures others { (gives.new.performed ≡ gives.old.performed) × (gives.new.marks ≡ gives.old.marks) }
     {
         let was_at_rest = guard.core().is_at_rest();
         let is_open = self.open_gate(guard, waited, &mut gives.past);
@@ -221,12 +276,19 @@ impl<'a, B: HubLedger, T: Ledger> LoopDesk<'a, B, T> {
 
     /// Whether calls may begin: unless the next chapter is due and can't begin yet. Where it can it begins, and what is left of the old
     /// one is given out.
-    fn open_gate(&self, guard: &mut Guard<'_, B, T>, waited: bool, past: &mut Option<Past>) -> bool
-        ensures { (gate : HubGate) × IsGate guard.old gate guard.new × (result ≡ (not (is_closed gate) || waited)) }
+    fn open_gate(
+        &mut self,
+        guard: &mut Guard<'_, B, T>,
+        waited: bool,
+        past: &mut Option<Past>,
+    ) -> bool
+        ensures gate { (gate : HubGate) × IsGate guard.old gate guard.new × (result ≡ (not (is_closed gate) || waited)) × (self.new.chapter ≡ chapter_behind gate self.old.chapter) }
+        ensures same { self.new.questions ≡ self.old.questions }
     {
         match guard.gate(self.alloc) {
             Gate::Open => true,
             Gate::Turned(old) => {
+                self.chapter = self.chapter.saturating_add(1);
                 *past = Some(old);
                 true
             }
@@ -255,13 +317,14 @@ impl<'a, B: HubLedger, T: Ledger> LoopDesk<'a, B, T> {
         ensures run { Runs guard.old [] [] guard.new }
         ensures same { AreSameOpen self.old.questions self.new.questions }
     {
-        begin_at(
+        let refused = begin_at(
             self.alloc,
             guard,
             &mut self.seat,
             &mut self.questions,
             number,
         );
+        self.refusals.note(refused);
         self.note_begun(number);
     }
 

@@ -69,7 +69,7 @@ pub(crate) fn report<B: HubLedger, T: Ledger>(
     arrival: Arrival,
 ) -> Option<u64>
     ensures reported { IsReported arrival.server arrival.leg arrival.reply guard.old guard.new }
-    ensures performed { IfSome result (λ number. WasPerformed number arrival.leg guard.old guard.new) }
+    ensures performed { IfSome result (λ number. WasPerformed number arrival guard.old guard.new) }
 {
     let Arrival { server, leg, reply } = arrival;
     let number = guard.core().record(leg);

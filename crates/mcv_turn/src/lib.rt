@@ -18,14 +18,17 @@ mod landing;
 mod notes;
 mod question;
 mod questions;
+mod refusals;
 mod sending;
 mod servers;
+mod shown;
 mod spooling;
 mod take;
 
 pub use crate::answer::{Answer, Asker, fault_for};
 pub use crate::arrival::{Arrival, NoReply};
-pub use crate::came::{Came, Gives, StoredLeg};
+pub use crate::came::{Came, Gives, Marked, Performed, StoredLeg};
 pub use crate::desk::LoopDesk;
 pub use crate::flight::{Flight, HeldLeg};
 pub use crate::keys::key_count;
+pub use crate::refusals::Refused;

@@ -1,10 +1,11 @@
 //! What a desk has noted of what is to be looked at.
 
-ghost use Rattle.std.specs.Prelude.{◌≡◌, ◌<◌, [], ◌∷◌, vec_capacity, vec_len};
+ghost use Rattle.std.specs.Prelude.{◌≡◌, ◌<◌, ◌⊎◌, [], ◌∷◌, ◌++◌, IfNone, IfSome, vec_capacity, vec_len};
 ghost use Rattle.mcv_turn.specs.Runs.{Runs, SendsMore};
+ghost use Rattle.mcv_turn.specs.Shown.{TellsPerformed};
 
 use crate::arrival::Arrival;
-use crate::came::StoredLeg;
+use crate::came::{Performed, StoredLeg};
 use crate::flight::{Departure, Flight, HeldLeg};
 use crate::landing::{call_of, report};
 use crate::sending::{take_again, take_next};
@@ -86,7 +87,6 @@ impl Notes {
     {
         for server in answering {
             guard.unmark(*server);
-            self.servers.note_mark(*server, false);
             self.servers.note_due(*server);
         }
     }
@@ -96,9 +96,10 @@ impl Notes {
         &mut self,
         guard: &mut Guard<'_, B, T>,
         arrivals: Vec<Arrival>,
-        performed: &mut Vec<u64>,
+        performed: &mut Vec<Performed>,
     )
-        ensures { Runs guard.old arrivals.items [] guard.new }
+        ensures run { Runs guard.old arrivals.items [] guard.new }
+        ensures performed { TellsPerformed guard.old arrivals.items performed.old.items performed.new.items }
     {
         for arrival in arrivals {
             self.report(guard, arrival, performed);
@@ -111,21 +112,30 @@ impl Notes {
         &mut self,
         guard: &mut Guard<'_, B, T>,
         arrival: Arrival,
-        performed: &mut Vec<u64>,
+        performed: &mut Vec<Performed>,
     )
-        ensures { Runs guard.old (arrival ∷ []) [] guard.new }
+        ensures run { Runs guard.old (arrival ∷ []) [] guard.new }
+        ensures performed { TellsPerformed guard.old (arrival ∷ []) performed.old.items performed.new.items }
     {
         let server = arrival.server;
         let call = call_of(guard.core(), arrival.leg);
         let landed = report(guard, arrival);
-        if let Some(number) = landed {
-            // Without memory for its number it is pending until the next start, and its leg is sent once more then.
-            let _ = performed.push(number);
-            self.servers.note_replay(server);
-        }
+        self.note_landed(server, landed, performed);
         self.servers.note_due(server);
-        self.note_mark(guard.core(), server);
         self.note_call(guard.core(), call);
+    }
+
+    /// Tells of the record whose leg the server has performed, if it has, and notes that its next one is to come. Without memory for its
+    /// number it is pending until the next start, and its leg is sent once more then.
+    fn note_landed(&mut self, server: ServerId, landed: Option<u64>, performed: &mut Vec<Performed>)
+        ensures told { IfSome landed (λ number. (performed.new.items ≡ performed.old.items ++ (record { server = server; number = number }) ∷ []) ⊎ (performed.new.items ≡ performed.old.items)) }
+        ensures none { IfNone landed (performed.new.items ≡ performed.old.items) }
+    {
+        let Some(number) = landed else {
+            return;
+        };
+        let _ = performed.push(Performed { server, number });
+        self.servers.note_replay(server);
     }
 
     /// Reports what the spool answered to a record.
@@ -143,11 +153,6 @@ impl Notes {
         let call = call_of(guard.core(), leg);
         let _ = settle(guard, leg, outcome);
         self.note_call(guard.core(), call);
-    }
-
-    /// Notes whether the server is marked.
-    fn note_mark(&mut self, core: &Dispatcher, server: ServerId) {
-        self.servers.note_mark(server, core.marked(server));
     }
 
     /// The reply to this call may be there: its question is to be looked at, if it waits for that.
@@ -287,7 +292,6 @@ impl Notes {
                 true
             }
             Ok(Departure::Lost { leg: _, call }) => {
-                self.note_mark(guard.core(), server);
                 self.note_call(guard.core(), call);
                 true
             }

@@ -9,6 +9,7 @@ ghost use Rattle.mcv_turn.specs.Answers.{AreFor, IsAnswer, desk_fault};
 ghost use Rattle.mcv_turn.specs.OpenRequests.{asked_in};
 ghost use Rattle.mcv_turn.specs.Runs.{Runs};
 ghost use Rattle.mcv_turn.specs.Question.{IsCause, IsDone};
+ghost use Rattle.mcv_turn.specs.Refusals.{WasCallRefused};
 
 use crate::answer::{Answer, Asker, fault_for, into_parts};
 use crate::begin::begin_each;
@@ -137,28 +138,32 @@ impl<B: HubLedger> Question<B> {
         })
     }
 
-    /// Begins calls for further keys, in their order, until 1,024 of them run or one is refused.
+    /// Begins calls for further keys, in their order, until 1,024 of them run or one is refused. Why one was, if one was.
     pub(crate) fn begin<T: Ledger>(
         &mut self,
         alloc: Global,
         guard: &mut Guard<'_, B, T>,
         seat: &mut Seat<B, T>,
-    )
+    ) -> Option<CoreFault>
         ensures run { Runs guard.old [] [] guard.new }
         ensures asked { asked_in self.new ≡ asked_in self.old }
+        ensures refused { IfSome result (WasCallRefused B.opened) }
     {
         match self.refused {
-            Some(_) => return,
+            Some(_) => return None,
             None => {}
         }
         let to = next_limit(self.count, self.progress.done);
         if to < self.calls.len() {
-            return;
+            return None;
         }
         let begun = begin_each(alloc, guard, seat, &self.request, to, &mut self.calls);
         match begun {
-            Ok(()) => {}
-            Err(fault) => self.refused = Some(fault),
+            Ok(()) => None,
+            Err(fault) => {
+                self.refused = Some(fault);
+                Some(fault)
+            }
         }
     }
 

@@ -4,11 +4,13 @@ ghost use Rattle.slab.specs.Slab.{get};
 ghost use Rattle.std.specs.Prelude.{◌≡◌, [], true, IfSome};
 ghost use Rattle.mcv_turn.specs.OpenRequests.{AreSameOpen};
 ghost use Rattle.mcv_turn.specs.Question.{IsDone};
+ghost use Rattle.mcv_turn.specs.Refusals.{WasCallRefused};
 ghost use Rattle.mcv_turn.specs.Runs.{Runs};
 
 use crate::kept::Kept;
 use crate::question::Question;
 use mcv_base::CallId;
+use mcv_core::CoreFault;
 use mcv_hub::{Guard, HubLedger, Seat};
 use slab::Slab;
 use std::alloc::Global;
@@ -49,21 +51,22 @@ pub(crate) fn awaits_at<B: HubLedger>(
     questions.get(number)?.awaits()
 }
 
-/// Begins calls for further keys of the question of this number, if there is one.
+/// Begins calls for further keys of the question of this number, if there is one. Why one was refused, if one was.
 pub(crate) fn begin_at<B: HubLedger, T: Ledger>(
     alloc: Global,
     guard: &mut Guard<'_, B, T>,
     seat: &mut Seat<B, T>,
     questions: &mut Slab<Question<B>>,
     number: usize,
-)
+) -> Option<CoreFault>
     ensures run { Runs guard.old [] [] guard.new }
     ensures same { AreSameOpen questions.old questions.new }
+    ensures refused { IfSome result (WasCallRefused B.opened) }
 {
     let Some(question) = questions.get_mut(number) else {
-        return;
+        return None;
     };
-    question.begin(alloc, guard, seat);
+    question.begin(alloc, guard, seat)
 }
 
 /// Takes the replies to the question of this number that are there, if there is one. False where one may be left, for want of memory

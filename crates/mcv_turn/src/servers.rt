@@ -1,8 +1,14 @@
 //! What a desk knows of the servers between two events.
 
+ghost use Rattle.std.specs.Prelude.{◌≡◌, ◌++◌, OnErr, OnOk};
+ghost use Rattle.mcv_turn.specs.Shown.{TellsMarks, is_known_marked, told_of};
+
+use crate::came::Marked;
 use mcv_base::ServerId;
+use mcv_hub::{Guard, HubLedger};
 use std::alloc::{AllocError, Global};
 use std::mem;
+use std::sync::ledger::Ledger;
 
 /// What is known of one server.
 #[derive(Clone, Copy)]
@@ -13,6 +19,33 @@ struct Standing {
     is_replayed: bool,
     /// It is marked.
     is_marked: bool,
+    /// It was told last that it is marked.
+    is_told_marked: bool,
+}
+
+impl Standing {
+    /// Whether the server is marked, which is told where it was told otherwise last. An error is that there is no memory for that, and
+    /// nothing is told then.
+    fn note_mark(
+        &mut self,
+        server: ServerId,
+        is_marked: bool,
+        marks: &mut Vec<Marked>,
+    ) -> Result<(), AllocError>
+        ensures known { self.new.is_marked ≡ is_marked }
+        ensures now { OnOk result (self.new.is_told_marked ≡ is_marked) }
+        ensures told { OnOk result (marks.new.items ≡ marks.old.items ++ told_of server self.old.is_told_marked is_marked) }
+        ensures still { OnErr result (self.new.is_told_marked ≡ self.old.is_told_marked) }
+        ensures untold { OnErr result (marks.new.items ≡ marks.old.items) }
+    {
+        self.is_marked = is_marked;
+        if self.is_told_marked == is_marked {
+            return Ok(());
+        }
+        marks.push(Marked { server, is_marked })?;
+        self.is_told_marked = is_marked;
+        Ok(())
+    }
 }
 
 /// What is known of the servers, by their numbers.
@@ -29,6 +62,7 @@ impl Servers {
             is_due: false,
             is_replayed: false,
             is_marked: false,
+            is_told_marked: false,
         };
         all.resize(count, standing)?;
         Ok(Servers { all })
@@ -78,15 +112,39 @@ impl Servers {
         }
     }
 
-    /// Whether the server is marked.
-    pub(crate) fn note_mark(&mut self, server: ServerId, is_marked: bool) {
-        if let Some(standing) = self.all.get_mut(server.0 as usize) {
-            standing.is_marked = is_marked;
+    /// Notes which servers are marked, and tells each whose mark isn't as it was told last, in the order of their numbers. Without
+    /// memory for one it is told another time.
+    pub(crate) fn note_marks<B: HubLedger, T: Ledger>(
+        &mut self,
+        guard: &Guard<'_, B, T>,
+        marks: &mut Vec<Marked>,
+    )
+        ensures { TellsMarks guard.now marks.old.items marks.new.items }
+    {
+        for number in 0..u32::try_from(self.all.len()).unwrap_or(u32::MAX) {
+            self.note_mark(guard, ServerId(number), marks);
         }
     }
 
+    /// The same of one server.
+    fn note_mark<B: HubLedger, T: Ledger>(
+        &mut self,
+        guard: &Guard<'_, B, T>,
+        server: ServerId,
+        marks: &mut Vec<Marked>,
+    )
+        ensures { TellsMarks guard.now marks.old.items marks.new.items }
+    {
+        let Some(standing) = self.all.get_mut(server.0 as usize) else {
+            return;
+        };
+        let _ = standing.note_mark(server, guard.core().marked(server), marks);
+    }
+
     /// Whether the server was marked when its hub was looked at last.
-    pub(crate) fn is_marked(&self, server: ServerId) -> bool {
+    pub(crate) fn is_marked(&self, server: ServerId) -> bool
+        ensures { result ≡ is_known_marked self.now server }
+    {
         match self.all.get(server.0 as usize) {
             Some(standing) => standing.is_marked,
             None => false,

@@ -9,6 +9,7 @@ use crate::scene::{SEATS, Scene, accepted_of, hub_of};
 use mcv_base::ServerId;
 use mcv_check::Accepted;
 use mcv_hub::HubLedger;
+use mcv_turn::Marked;
 use std::marker::Brand;
 use std::num::NonZeroUsize;
 use std::process::Abort;
@@ -36,6 +37,7 @@ enum Row {
     MarkedServer,
     SeveralDie,
     ConnectionsDie,
+    Noted,
 }
 
 /// Two sessions at once: each is answered its own replies, in the order of its requests.
@@ -325,6 +327,49 @@ fn connections_die<B: HubLedger, T: Ledger, R: AllocGlobal + Abort + Wait>(
     scene.check_books(rt, 9);
 }
 
+/// What a turn tells of the hub: the legs that wait and are queued, how full the chapter is, and the marks of servers.
+fn noted<B: HubLedger, T: Ledger, R: AllocGlobal + Abort + Wait>(rt: &R, scene: Scene<'_, B, T>) {
+    let mut scene = scene;
+    for client in 0..3 {
+        scene.send(rt, client, b"get a\r\n");
+    }
+    scene.round(rt);
+    assert!(rt; scene.waiting.is_none(), "legs were counted unasked");
+    scene.count();
+    scene.round(rt);
+    let waiting = scene.waiting.as_ref().expect(rt, "counts");
+    let waiting = waiting.get(0).copied();
+    assert!(rt; waiting == Some(2), "{waiting:?} legs wait");
+    let queued = scene.queued;
+    assert!(rt; queued == 3, "{queued} legs are queued");
+    // Each call has an entry of 128 bytes, and a key of one.
+    let load = scene.load;
+    assert!(rt; load.chapter == 0 && load.bytes == 3 * 129, "{load:?}");
+    assert!(rt; load.entries >= 3, "{load:?}");
+    for failure in 0..3 {
+        let told = scene.marks.len();
+        assert!(rt; told == 0, "{told} marks after failure {failure}");
+        scene.break_off(rt, 0);
+        scene.connect(rt, 0);
+        scene.round(rt);
+    }
+    scene.answers_probe(rt, ServerId(0));
+    scene.settle(rt, 5);
+    let mark = Marked {
+        server: ServerId(0),
+        is_marked: true,
+    };
+    let unmark = Marked {
+        server: ServerId(0),
+        is_marked: false,
+    };
+    let marks = scene.marks.as_slice();
+    assert!(rt; marks == [mark, unmark].as_slice(), "{marks:?}");
+    let queued = scene.queued;
+    assert!(rt; queued == 0, "{queued} legs are queued in the end");
+    scene.check_books(rt, 3);
+}
+
 /// Plays a row over a hub of its own, of which each server may have so many legs in flight.
 fn play<B: HubLedger, T: Ledger, R: AllocGlobal + Abort + Wait>(
     rt: &R,
@@ -353,6 +398,7 @@ fn play<B: HubLedger, T: Ledger, R: AllocGlobal + Abort + Wait>(
         Row::MarkedServer => marked_server(rt, scene),
         Row::SeveralDie => several_die(rt, scene),
         Row::ConnectionsDie => connections_die(rt, scene),
+        Row::Noted => noted(rt, scene),
     }
 }
 
@@ -428,4 +474,9 @@ fn a_server_that_dies_with_three_legs_in_flight(rt: HostRuntime) {
 #[test]
 fn connections_that_die_with_three_legs_each(rt: HostRuntime) {
     play_with(&rt, Row::ConnectionsDie, ONE, 3);
+}
+
+#[test]
+fn what_a_turn_tells_of_the_hub(rt: HostRuntime) {
+    play_one(&rt, Row::Noted, ONE);
 }

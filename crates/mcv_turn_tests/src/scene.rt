@@ -13,9 +13,10 @@ use mcv_hub::{Capacity, Hub, HubLedger, Pass, Passes, Receipt, Report, Seat};
 use mcv_pipeline::Landed;
 use mcv_session::Machine;
 use mcv_spool::{Spool, SpoolFault};
-use mcv_turn::{Answer, Arrival, Asker, Came, Gives, HeldLeg, LoopDesk, StoredLeg};
+use mcv_turn::{Answer, Arrival, Asker, Came, Gives, HeldLeg, LoopDesk, Marked, StoredLeg};
 use mcv_upstream::Upstream;
 use mcv_verdict::{Judgement, judge_input};
+use mcv_watch::Load;
 use std::num::NonZeroUsize;
 use std::process::Abort;
 use std::sync::ledger::{Blank, Ledger};
@@ -83,6 +84,12 @@ pub(crate) struct Scene<'a, B: HubLedger, T: Ledger> {
     pub(crate) finished: u64,
     /// The record that is to be written.
     pub(crate) held: Option<HeldLeg>,
+    /// The marks that were told.
+    pub(crate) marks: Vec<Marked>,
+    /// What the last turn told of the hub.
+    pub(crate) load: Load,
+    pub(crate) waiting: Option<Vec<usize>>,
+    pub(crate) queued: usize,
 }
 
 impl<'a, B: HubLedger, T: Ledger> Scene<'a, B, T> {
@@ -110,6 +117,14 @@ impl<'a, B: HubLedger, T: Ledger> Scene<'a, B, T> {
                 .expect(rt, "a spool"),
             finished: 0,
             held: None,
+            marks: Vec::new(alloc),
+            load: Load {
+                chapter: 0,
+                entries: 0,
+                bytes: 0,
+            },
+            waiting: None,
+            queued: 0,
         };
         for _server in 0..servers {
             scene
@@ -148,6 +163,11 @@ impl<'a, B: HubLedger, T: Ledger> Scene<'a, B, T> {
     /// Legs in the spool are to be sent again.
     pub(crate) fn replay(&mut self) {
         self.came.replays = true;
+    }
+
+    /// The legs that wait are counted in the next turn.
+    pub(crate) fn count(&mut self) {
+        self.came.counts = true;
     }
 
     /// The spool takes records, or refuses them.
@@ -226,9 +246,20 @@ impl<'a, B: HubLedger, T: Ledger> Scene<'a, B, T> {
             held,
             performed,
             past: _,
+            marks,
+            refused: _,
+            load,
+            waiting,
+            queued,
         } = gives;
-        for number in performed {
-            self.spool.done(number).ok().expect(rt, "a record");
+        self.load = load;
+        self.waiting = waiting;
+        self.queued = queued;
+        for mark in marks {
+            self.marks.push(mark).expect(rt, "memory");
+        }
+        for done in performed {
+            self.spool.done(done.number).ok().expect(rt, "a record");
             self.finished = self.finished.saturating_add(1);
         }
         for flight in flights {

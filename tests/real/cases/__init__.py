@@ -1,7 +1,7 @@
 """The cases, in the order in which they run."""
-from cases import clients, crowds, drains, metrics, mutants, requests, servers, spools, starts, stops
+from cases import clients, crowds, drains, flights, idle, metrics, mutants, requests, servers, spools, starts, stops, waits
 
-MODULES = [starts, requests, clients, servers, spools, crowds, drains, metrics, mutants, stops]
+MODULES = [starts, requests, clients, servers, flights, idle, spools, crowds, drains, metrics, mutants, stops, waits]
 
 
 def named(names):

@@ -1,13 +1,13 @@
 """Many clients at once, and clients that do harm."""
 import contextlib
 import random
+import signal
 import socket
-import struct
 import threading
 import time
 
-from fakes import Fake
-from parts import (LIMIT, UNLIMITED, Failed, address_of, case, deletes_to_all, expect, one_pool, records, replayed,
+from fakes import PERFORM, Fake
+from parts import (LIMIT, UNLIMITED, Client, Failed, address_of, case, deletes_to_all, expect, freeze, one_pool, records, replayed,
                    stored, value_answer, wait_for)
 
 
@@ -84,13 +84,13 @@ def garbage_and_half_requests_while_others_work(machine):
         client.ask(b"get g\r\n", b"END\r\n")
 
 
-def used(process):
-    """Megabytes of memory that a process has, its threads, and its maps."""
-    with open("/proc/%d/status" % process.pid) as file:
+def used(mcv):
+    """Megabytes of memory that a program has, its threads, its maps, and its files."""
+    with open("/proc/%d/status" % mcv.process.pid) as file:
         rows = dict(row.split(":", 1) for row in file)
-    with open("/proc/%d/maps" % process.pid) as file:
+    with open("/proc/%d/maps" % mcv.process.pid) as file:
         maps = sum(1 for _ in file)
-    return int(rows["VmRSS"].split()[0]) // 1024, int(rows["Threads"]), maps
+    return int(rows["VmRSS"].split()[0]) // 1024, int(rows["Threads"]), maps, mcv.files()
 
 
 @case(240)
@@ -100,7 +100,7 @@ def forty_thousand_connections_one_after_the_other(machine):
     before = None
     for n in range(40000):
         if n == 1000:
-            before = used(mcv.process)
+            before = used(mcv)
         # From many addresses, since a port isn't free again at once.
         with socket.create_connection(address, timeout=LIMIT, source_address=("127.0.1.%d" % (n // 200 + 1), 0)) as client:
             client.sendall(b"version\r\nquit\r\n")
@@ -108,10 +108,34 @@ def forty_thousand_connections_one_after_the_other(machine):
             while piece := client.recv(100):
                 found += piece
             expect(found, b"VERSION mcv 1\r\n", "connection %d" % n)
-    after = used(mcv.process)
-    # What is left of one connection more.
-    if any(now > was + more for was, now, more in zip(before, after, (8, 2, 40))):
-        raise Failed("(megabytes, threads, maps) are %s, and were %s after 1,000" % (after, before))
+    # What is left of one connection more, and no thread for any.
+    wait_for(lambda: mcv.files() <= before[3] + 1, "the last connection is closed")
+    after = used(mcv)
+    if any(now > was + more for was, now, more in zip(before, after, (8, 0, 40, 1))):
+        raise Failed("(megabytes, threads, maps, files) are %s, and were %s after 1,000" % (after, before))
+
+
+@case()
+def five_hundred_idle_clients_take_no_thread_and_little_memory(machine):
+    """Each has been answered once. The goal is 8 kB for one."""
+    mcv = machine.mcv(one_pool(machine.servers(1)))
+    with contextlib.ExitStack() as kept:
+        clients = [kept.enter_context(mcv.client()) for _ in range(10)]
+        for client in clients:
+            client.ask(b"get a\r\n", b"END\r\n")
+        threads, before = used(mcv)[1], mcv.resident()
+        for _ in range(500):
+            client = kept.enter_context(mcv.client())
+            client.ask(b"get a\r\n", b"END\r\n")
+            clients.append(client)
+        for client in clients:
+            client.ask(b"get a\r\n", b"END\r\n")
+        expect(used(mcv)[1], threads, "threads")
+        # Beside them the history of the chapter grows by some 450 bytes for a call.
+        more = mcv.resident() - before - 1010 * 450
+        if more > 500 * 8192:
+            raise Failed("500 clients take %d bytes" % more)
+    wait_for(lambda: mcv.files() < 100, "the clients are closed")
 
 
 def getting(mcv, count, wanted, faults, most):
@@ -122,7 +146,7 @@ def getting(mcv, count, wanted, faults, most):
                 client.send(b"get large\r\n")
                 if client.exactly(len(wanted)) != wanted:
                     raise Failed("another value")
-                most.append(max(most.pop(), used(mcv.process)[0]))
+                most.append(max(most.pop(), used(mcv)[0]))
     except (Failed, OSError, IndexError) as fault:
         faults.append(repr(fault))
 
@@ -207,28 +231,108 @@ def a_client_that_is_refused_is_no_session(machine):
     expect(mcv.last_lines(), (b"mcv closed calls 2\n", 0))
 
 
-@case()
-def a_client_that_reads_nothing_stops_no_other(machine):
+@case(120)
+def clients_that_read_nothing_stop_no_other_and_cost_an_answer_each(machine):
+    """Each asks for 100 MB in one piece: what is asked of it, beside what the system keeps for who doesn't read, is 1 MiB and an
+    answer. 64 MiB are those of the history."""
     mcv = machine.mcv(one_pool(machine.servers(1)))
+    value = b"x" * 1000000
     with contextlib.ExitStack() as kept:
-        deaf = [kept.enter_context(mcv.client()) for _ in range(5)]
-        deaf[0].ask(stored(b"big", b"x" * 1000000), b"STORED\r\n")
+        deaf = [kept.enter_context(mcv.client()) for _ in range(10)]
+        deaf[0].ask(stored(b"big", value), b"STORED\r\n")
         for client in deaf:
-            client.send(b"get big\r\n" * 50)
+            client.send(b"get big\r\n" * 100)
         with workers(mcv, 4):
-            pass
+            time.sleep(2)
+        if used(mcv)[0] > 250:
+            raise Failed("ten clients that read nothing take %d megabytes" % used(mcv)[0])
+        # Once one reads it has all, in whole answers.
+        wanted = value_answer(b"big", value)
+        for number in range(100):
+            expect(deaf[0].exactly(len(wanted)) == wanted, True, "answer %d" % number)
 
 
 @case()
 def clients_that_go_in_the_midst_stop_no_other(machine):
     mcv = machine.mcv(one_pool(machine.servers(1)))
+    before = mcv.files()
     with workers(mcv, 2):
         for n in range(100):
             client = mcv.client()
             client.send(stored(b"big", b"x" * 100000) + b"get big\r\n" * 20 if n % 2 else b"get big\r\nset big 0 0 100000\r\nx")
-            # Closed with a reset.
-            client.socket.setsockopt(socket.SOL_SOCKET, socket.SO_LINGER, struct.pack("ii", 1, 0))
-            client.socket.close()
+            client.close_with_reset()
+    # One connection is that to the server.
+    wait_for(lambda: mcv.files() <= before + 1, "each connection is closed")
+
+
+@case()
+def a_client_that_sends_no_more_is_answered_whole(machine):
+    """The end of its bytes is seen together with its last requests, or comes while one of them is out."""
+    go = threading.Event()
+
+    def mood():
+        go.wait(LIMIT)
+        return PERFORM
+
+    server = machine.fake(Fake(mood))
+    mcv = machine.mcv(one_pool([server.text]), server_timeout=20000)
+    for count in (1, 5000):
+        go.set()
+        with mcv.client() as client:
+            client.ask(b"get a\r\n", b"END\r\n")
+            freeze(mcv.process)
+            client.send(b"get b\r\n" * count)
+            client.socket.shutdown(socket.SHUT_WR)
+            mcv.process.send_signal(signal.SIGCONT)
+            expect(client.rest() == b"END\r\n" * count, True, "%d gets, seen together with the end, have another answer" % count)
+        go.clear()
+        with mcv.client() as client:
+            asked = len(server.requests)
+            client.send(b"get c\r\n")
+            wait_for(lambda: len(server.requests) > asked, "the server is asked")
+            client.send(b"get d\r\n" * count)
+            client.socket.shutdown(socket.SHUT_WR)
+            time.sleep(0.2)
+            go.set()
+            expect(client.rest() == b"END\r\n" * (count + 1), True, "%d gets behind one that was out have another answer" % count)
+
+
+@case()
+def a_client_closed_in_the_midst_of_its_request_has_asked_nothing(machine):
+    fake = machine.fake(Fake())
+    mcv = machine.mcv(one_pool([fake.text]))
+    before = mcv.files()
+    for sent in (b"set k 0 0 10\r\nhalf", b"set k 0 0 3\r\nabc\r", b"delete k", b"delete k\r", b"get k", b"get k k", b"incr k 1"):
+        for close in (Client.close_with_reset, lambda client: client.socket.close()):
+            client = mcv.client()
+            client.send(sent)
+            close(client)
+    wait_for(lambda: mcv.files() == before, "each is closed")
+    with mcv.client() as client:
+        client.ask(b"get after\r\n", b"END\r\n")
+    expect(fake.requests, [(b"get", b"after")], "what the server was asked")
+
+
+@case()
+def a_client_closed_in_the_midst_of_its_answer_takes_nothing_with_it(machine):
+    """The connection to the server goes on, with the replies to others; the client's is closed."""
+    value = b"x" * 1000000
+    fake = machine.fake(Fake(values=lambda key: value if key == b"big" else b"of " + key))
+    mcv = machine.mcv(one_pool([fake.text]))
+    with mcv.client() as other:
+        other.ask(b"get a\r\n", value_answer(b"a", b"of a"))
+        before = mcv.files()
+        for number in range(40):
+            client = mcv.client()
+            client.send(b"get big\r\n" * 5)
+            expect(client.exactly(1000), value_answer(b"big", value)[:1000], "the begin of an answer")
+            if number % 2:
+                client.close_with_reset()
+            else:
+                client.socket.close()
+            other.ask(b"get k%d\r\n" % number, value_answer(b"k%d" % number, b"of k%d" % number))
+        wait_for(lambda: mcv.files() == before, "each is closed")
+    expect(fake.accepted, 1, "connections to the server")
 
 
 @case()

@@ -9,7 +9,7 @@ import time
 from cases.servers import FAILED, LIMITED
 from cases.stops import CLIENTS, deleting, missing
 from fakes import PERFORM, SILENCE, Fake
-from parts import LIMIT, UNLIMITED, Client, Failed, address_of, case, expect, free_port, one_pool, pending, stored, wait_for
+from parts import LIMIT, UNLIMITED, Client, Failed, address_of, case, expect, free_port, one_pool, pending, stored, value_answer, wait_for
 
 DRAINS, DRAINS_OF_A_FILE = 200, 5
 # So many deletes at least were answered and aren't performed when a drain is asked for.
@@ -224,18 +224,64 @@ def the_end_of_a_drain_is_said_behind_many_lines(machine):
 
 
 @case()
-def a_leg_under_way_keeps_its_own_time(machine):
-    """It was begun before the drain, and its server never answers: what ends it puts its delete into the spool."""
-    admin, spool = admin_address(), machine.path("mcv.spool")
-    server = machine.fake(Fake(lambda: SILENCE))
-    mcv = machine.mcv(deletes_asynchronously([server.text]), spool=spool, admin=admin, server_timeout=3000)
-    with mcv.client() as client:
-        client.ask(b"delete a\r\n", b"NOT_FOUND\r\n")
-        wait_for(lambda: server.requests, "the server is asked")
-        expect(asked(admin, "POST", "/drain?seconds=0"), (200, b"draining\n"))
+def a_leg_in_flight_has_the_time_of_the_drain(machine):
+    """Its server never answers, and has no time of its own: the drain's end puts its delete into the spool, and who waits for a get
+    has an error."""
+    for seconds in (0, 1):
+        admin, spool = admin_address(), machine.path("mcv.spool.%d" % seconds)
+        server = machine.fake(Fake(lambda: SILENCE))
+        mcv = machine.mcv(deletes_asynchronously([server.text]), spool=spool, admin=admin)
+        with mcv.client() as client, mcv.client() as waits:
+            client.ask(b"delete a\r\n", b"NOT_FOUND\r\n")
+            waits.send(b"get b\r\n")
+            wait_for(lambda: len(server.requests) == 2, "the server is asked")
+            began = time.monotonic()
+            expect(asked(admin, "POST", "/drain?seconds=%d" % seconds), (200, b"draining\n"))
+            expect((client.rest(), waits.rest()), (b"", FAILED))
+        expect(mcv.last_lines(), (b"mcv closed calls 2\n", 0))
+        expect(seconds <= time.monotonic() - began < seconds + 5, True, "seconds")
+        expect([rest for _, rest in pending(spool)], [b"a"])
+
+
+@case()
+def a_client_that_takes_nothing_keeps_no_drain(machine):
+    """It has asked for more than the system keeps for it. Another one is told the answer that it waits for."""
+    admin = admin_address()
+    mcv = machine.mcv(one_pool(machine.servers(1)), admin=admin, server_timeout=20000)
+    with mcv.client() as deaf, mcv.client() as client:
+        client.ask(stored(b"big", b"x" * 1000000), b"STORED\r\n")
+        deaf.send(b"get big\r\n" * 50)
+        client.ask(b"get a\r\n" * 100, b"END\r\n" * 100)
+        began = time.monotonic()
+        expect(asked(admin, "POST", "/drain?seconds=1"), (200, b"draining\n"))
         expect(client.rest(), b"")
-    expect(mcv.last_lines(), (b"mcv closed calls 1\n", 0))
-    expect([rest for _, rest in pending(spool)], [b"a"])
+        printed, status = mcv.last_lines()
+        expect((printed.split(b" ")[:3], status), ([b"mcv", b"closed", b"calls"], 0))
+        expect(time.monotonic() - began < 8, True, "seconds")
+        expect(len(deaf.rest()) < 50 * 1000000, True, "a client that reads nothing has all its answers")
+    expect(mcv.error_text(), b"mcv: a drain began: 1 seconds\nmcv: a drain ended\n")
+
+
+@case()
+def a_request_that_was_read_before_a_drain_is_answered_whole(machine):
+    """A get of many keys, whose server answers behind the drain's begin."""
+    admin, go = admin_address(), threading.Event()
+
+    def mood():
+        go.wait(LIMIT)
+        return PERFORM
+
+    server = machine.fake(Fake(mood, values=lambda key: b"of " + key))
+    mcv = machine.mcv(one_pool([server.text]), admin=admin, server_timeout=20000)
+    keys = [b"k%d" % n for n in range(300)]
+    wanted = b"".join(value_answer(key, b"of " + key)[:-5] for key in keys) + b"END\r\n"
+    with mcv.client() as client:
+        client.send(b"get " + b" ".join(keys) + b"\r\n")
+        wait_for(lambda: server.requests, "the server is asked")
+        expect(asked(admin, "POST", "/drain?seconds=20"), (200, b"draining\n"))
+        go.set()
+        expect(client.rest(), wanted)
+    expect(mcv.last_lines(), (b"mcv closed calls 300\n", 0))
 
 
 def under_way(acknowledged, servers):

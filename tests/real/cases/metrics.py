@@ -5,6 +5,7 @@ import subprocess
 import threading
 
 from cases.crowds import TOO_MANY
+from cases.flights import FLIGHTS
 from cases.drains import admin_address, deletes_asynchronously, spool_two, with_room_for_two
 from cases.servers import FAILED
 from fakes import DROP, PERFORM, SILENCE, Fake
@@ -84,9 +85,9 @@ def waiting(admin, servers):
 
 @case()
 def legs_that_wait_are_shown(machine):
-    """A server doesn't answer: of 20 deletes one of each hub is under way, and the others wait until its time is over. It answers
+    """A server doesn't answer: of 400 deletes 64 of each hub are in flight, and the others wait until its time is over. It answers
     the next ones."""
-    keys = [b"k%d" % n for n in range(20)]
+    keys = [b"k%d" % n for n in range(400)]
     for hubs in (1, 2):
         mood = [SILENCE]
         admin, servers = admin_address(), [machine.fake(Fake(lambda: mood[0])), machine.fake(Fake())]
@@ -95,8 +96,8 @@ def legs_that_wait_are_shown(machine):
         expect(waiting(admin, servers), [0, 0])
         with mcv.client() as client:
             client.ask(b"".join(b"delete " + key + b"\r\n" for key in keys), b"NOT_FOUND\r\n" * len(keys))
-        left = len(keys) - len({index_of(key, hubs) for key in keys})
-        expect(left, 20 - hubs)
+        left = len(keys) - FLIGHTS * hubs
+        expect([hub for hub in range(hubs) if sum(index_of(key, hubs) == hub for key in keys) <= FLIGHTS], [], "hubs with few keys")
         wait_for(lambda: waiting(admin, servers) == [left, 0], "%d legs wait" % left)
         mood[0] = PERFORM
         wait_for(lambda: waiting(admin, servers) == [0, 0], "no leg waits")
@@ -110,7 +111,7 @@ def a_server_that_is_marked_is_shown(machine):
     with mcv.client() as client:
         for n in range(3):
             client.ask(stored(b"k%d" % n, b"1"), FAILED)
-        wait_for(lambda: legs(admin, server)[2] == 1, "the server is marked")
+        wait_for(lambda: legs(admin, server) == (3, 3, 1), "three legs are lost, and the server is marked")
         machine.memcached(port=port)
 
         def back():
@@ -137,9 +138,29 @@ def calls_are_counted_by_what_they_ask_and_get(machine):
         client.ask(b"incr a 2\r\n", b"3\r\n")
         client.ask(b"delete a\r\ndelete a\r\n", b"DELETED\r\nNOT_FOUND\r\n")
         client.ask(b"get /other/pool/a\r\n", b"SERVER_ERROR no route\r\n")
-    expect(sums(admin, "mcv_calls_total", "operation"), {"set": 1, "get": 3, "incr": 1, "delete": 2})
+    expect(sums(admin, "mcv_calls_total", "operation"), {"set": 1, "get": 4, "incr": 1, "delete": 2})
     expect(sums(admin, "mcv_replies_total", "outcome"), {"stored": 1, "hit": 1, "miss": 2, "number": 1, "deleted": 1, "not_found": 1})
     expect(sums(admin, "mcv_refusals_total", "cause"), {"no_route": 1})
+
+
+@case()
+def a_call_to_a_server_that_hangs_is_counted(machine):
+    """Calls are counted as they are asked, and their replies as they come."""
+    admin, mood = admin_address(), [SILENCE]
+    server = machine.fake(Fake(lambda: mood[0]))
+    mcv = machine.mcv(one_pool([server.text]), admin=admin)
+    with mcv.client() as client, mcv.client() as other:
+        client.send(b"get a b c\r\n")
+        other.send(b"delete d\r\n")
+        wait_for(lambda: len(server.requests) == 4, "the server is asked")
+        expect(sums(admin, "mcv_calls_total", "operation"), {"get": 3, "delete": 1})
+        expect(sums(admin, "mcv_replies_total", "outcome"), {}, "replies")
+        mood[0] = PERFORM
+        server.drop()
+        # (over a connection that is new nothing is sent once more)
+        expect((client.line(), other.line()), (FAILED, b"NOT_FOUND\r\n"))
+        expect(sums(admin, "mcv_calls_total", "operation"), {"get": 3, "delete": 1})
+        expect(sums(admin, "mcv_replies_total", "outcome"), {"fault": 3, "not_found": 1})
 
 
 @case()
@@ -187,7 +208,7 @@ def the_chapters_of_hubs_are_shown(machine):
 
 @case(120)
 def requests_without_a_place_are_refused_and_said(machine):
-    """A server never answers, and nobody waits for it: 65,536 deletes wait, and one is under way or on its way into that."""
+    """A server never answers, and nobody waits for it: 65,536 deletes wait, with those in flight."""
     admin, server = admin_address(), machine.fake(Fake(lambda: SILENCE))
     mcv = machine.mcv(deletes_asynchronously([server.text]), admin=admin, server_timeout=100000)
     answers = []
@@ -198,7 +219,7 @@ def requests_without_a_place_are_refused_and_said(machine):
         taken = answers.index(b"SERVER_ERROR busy\r\n")
         expect(set(answers[:taken]), {b"NOT_FOUND\r\n"})
         expect(set(answers[taken:]), {b"SERVER_ERROR busy\r\n"})
-        expect(taken in (65536, 65537), True, "%d deletes" % taken)
+        expect(taken, 65536, "deletes")
         expect(sums(admin, "mcv_refusals_total", "cause"), {"busy": len(answers) - taken})
         expect(mcv.error_text(), b"mcv: too many legs wait: 1 refused\n")
 

@@ -5,7 +5,7 @@ import socket
 import threading
 import time
 
-from fakes import DROP, PERFORM, PERFORM_AND_DROP, REFUSE, SILENCE, Fake
+from fakes import DROP, PERFORM, PERFORM_AND_DROP, REFUSE, SILENCE, Fake, Unaccepting
 from parts import (Client, Failed, answer, case, deletes_to_all, expect, free_port, freeze, one_pool, pending, records, replayed,
                    stored, value_answer, wait_for)
 
@@ -133,9 +133,9 @@ def a_warm_up_adds_what_the_warm_pool_had(machine):
 def what_is_no_reply_is_an_error_and_a_delete_is_spooled(machine):
     cases = {
         b"get": [b"VALUE other 0 1\r\nx\r\nEND\r\n", b"VALUE a 0 1 7\r\nx\r\nEND\r\n", b"STORED\r\n", b"VALUE a 0 1048577\r\n", b"x" * 3000,
-                 b"END\r\nEND\r\n", b"VALUE a 0 1\r\nxyEND\r\n", b"\0\r\n"],
+                 b"VALUE a 0 1\r\nxyEND\r\n", b"\0\r\n"],
         b"incr": [b"18446744073709551616\r\n", b"-1\r\n", b"6x\r\n", b"TOUCHED\r\n", b"\r\n"],
-        b"delete": [b"STORED\r\n", b"nonsense\r\n", b"DELETED\r\nDELETED\r\n"],
+        b"delete": [b"STORED\r\n", b"nonsense\r\n", b"\r\nDELETED\r\n"],
     }
     more = {b"incr": b" 1"}
     spooled = 0
@@ -234,6 +234,31 @@ def servers_that_one_request_marks_are_each_said(machine):
 
 
 @case()
+def a_server_that_is_marked_and_answers_is_asked_again_at_once(machine):
+    """It breaks three connections in a row, and is well then: it is probed as soon as it is marked."""
+    mood = [PERFORM]
+    fake = machine.fake(Fake(lambda: mood[0]))
+    mcv = machine.mcv(one_pool([fake.text]), server_timeout=20000)
+    seconds = []
+    with mcv.client() as client:
+
+        def is_answered():
+            client.send(b"get a\r\n")
+            return client.line() == b"END\r\n"
+
+        for turn in range(5):
+            mood[0] = DROP
+            client.ask(b"get a\r\n" * 3, FAILED * 3)
+            mood[0] = PERFORM
+            begun = time.monotonic()
+            wait_for(is_answered, "a get is answered")
+            seconds.append(time.monotonic() - begun)
+            wait_for(lambda: mcv.error_text().count(b" is marked\n") > turn, "the mark")
+    if sorted(seconds)[2] > 0.5:
+        raise Failed("a server that was marked and was well was asked again behind %s seconds" % ["%.3f" % took for took in seconds])
+
+
+@case()
 def a_server_that_hangs_fails_in_its_time(machine):
     (text, process), up = machine.memcached(), machine.servers(1)[0]
     spool = machine.path("mcv.spool")
@@ -262,6 +287,49 @@ def a_server_that_hangs_fails_in_its_time(machine):
 
 
 @case()
+def a_server_that_takes_no_connection_fails_in_its_time(machine):
+    """It is marked, its deletes go to the spool, and no other server waits for it. Once it takes connections it has its deletes."""
+    shut, up = machine.fake(Unaccepting()), machine.servers(1)[0]
+    spool = machine.path("mcv.spool")
+    mcv = machine.mcv(hung_beside(shut.text, up), server_timeout=500)
+    with mcv.client() as waits, mcv.client() as works:
+        for turn in range(3):
+            waits.send(b"get hung%d\r\n" % turn)
+            begun = time.monotonic()
+            took = timed(works, stored(b"k", b"%d" % turn) + b"get k\r\n", b"STORED\r\n" + value_answer(b"k", b"%d" % turn))
+            expect(took < 0.4, True, "what is asked of the server that is up took %.3f seconds" % took)
+            expect(waits.line(), FAILED)
+            took = time.monotonic() - begun
+            if not 0.4 < took < 5:
+                raise Failed("get %d took %.3f seconds" % (turn, took))
+        wait_for(lambda: b"mcv: server " + shut.text.encode() + b" is marked\n" in mcv.error_text(), "the mark")
+        waits.ask(b"get hung\r\ndelete hung\r\n", FAILED + b"NOT_FOUND\r\n")
+        expect(pending(spool), [(shut.text.encode(), b"hung")])
+        expect(shut.requests, [], "requests")
+        shut.open()
+        wait_for(lambda: not pending(spool), "the delete is sent again")
+        expect(shut.performed, {b"hung"})
+
+
+@case()
+def a_servers_time_is_kept_whenever_it_is_asked(machine):
+    """At any moment of a second, behind a while in which no leg was in flight. What it answers between keeps it from a mark."""
+    mood = [PERFORM]
+    fake = machine.fake(Fake(lambda: mood[0]))
+    mcv = machine.mcv(one_pool([fake.text]), server_timeout=200)
+    seconds = []
+    with mcv.client() as client:
+        for turn in range(9):
+            mood[0] = PERFORM
+            client.ask(b"get a\r\n", b"END\r\n")
+            time.sleep(1 + turn / 9)
+            mood[0] = SILENCE
+            seconds.append(timed(client, b"get a\r\n", FAILED))
+    if min(seconds) < 0.2 or sorted(seconds)[4] > 0.4 or max(seconds) > 5:
+        raise Failed("what has 0.2 seconds took %s" % ["%.3f" % took for took in seconds])
+
+
+@case()
 def what_a_server_didnt_answer_in_its_time_isnt_sent_again(machine):
     moods = iter(["perform"])
     fake = machine.fake(Fake(mood=lambda: next(moods, SILENCE)))
@@ -272,22 +340,60 @@ def what_a_server_didnt_answer_in_its_time_isnt_sent_again(machine):
         expect(fake.requests, [(b"get", b"a"), (b"get", b"b")])
 
 
-def getting(mcv, count, slow, faults):
-    """Sends so many gets, 50 at a time, and notes what takes longer than ten seconds and what isn't answered by END."""
+def getting(mcv, count, slow, faults, most=10):
+    """Sends so many gets, 50 at a time, and notes what takes longer than `most` seconds and what isn't answered by END."""
     try:
         with mcv.client() as client:
             for _ in range(count // 50):
                 took = timed(client, b"get k\r\n" * 50, b"END\r\n" * 50)
-                if took > 10:
+                if took > most:
                     slow.append(took)
     except (Failed, OSError) as fault:
         faults.append(str(fault))
 
 
+@case(120)
+def gets_beside_a_server_that_hangs_are_quick(machine):
+    """More than half of what a chapter holds, so that the next one begins meanwhile, while calls to the other server run."""
+    (text, process), up = machine.memcached(), machine.servers(1)[0]
+    mcv = machine.mcv(hung_beside(text, up), server_timeout=200)
+    freeze(process)
+    slow, faults = [], []
+    threads = [threading.Thread(target=getting, args=(mcv, 25000, slow, faults, 2)) for _ in range(8)]
+    with mcv.client() as waits:
+        for thread in threads:
+            thread.start()
+        # The first ones take their time; then the server is marked, and some of these wait for a probe.
+        for number in range(20):
+            took = timed(waits, b"get hung%d\r\n" % number, FAILED)
+            expect(took < 5, True, "get %d took %.3f seconds" % (number, took))
+        for thread in threads:
+            thread.join()
+    expect((faults, slow), ([], []), "gets of the server that is up, and those that took longer than two seconds")
+
+
+@case(120)
+def a_chapter_that_waits_in_vain_costs_a_second_once(machine):
+    """A get whose server never answers keeps the next chapter from its begin, once it is due at 500,000 entries, five for a get.
+    Who asks then waits a second, and goes on without a further wait."""
+    silent, up = machine.fake(Fake(mood=lambda: SILENCE)), machine.servers(1)[0]
+    mcv = machine.mcv(hung_beside(silent.text, up))
+    asked = b"get " + b" ".join(b"k%d" % number for number in range(1000)) + b"\r\n"
+    with mcv.client() as waits, mcv.client() as works:
+        waits.send(b"get hung\r\n")
+        wait_for(lambda: (b"get", b"hung") in silent.requests, "the server is asked")
+        seconds = [timed(works, asked, b"END\r\n") for _ in range(140)]
+        if sum(took > 0.9 for took in seconds) > 2:
+            raise Failed("%d of 140 requests waited a second" % sum(took > 0.9 for took in seconds))
+        silent.drop()
+        expect(waits.line(), FAILED)
+        works.ask(asked, b"END\r\n")
+
+
 @case(300)
 def half_a_million_gets_beside_a_server_that_hangs(machine):
     """More than the history of a chapter holds, so that calls wait for the next one, which waits for calls that run: for less
-    than the second after which a call that waits is refused. The server that is up keeps this time on a busy machine too."""
+    than the second after which those that wait go on in this one. The server that is up keeps this time on a busy machine too."""
     (text, process), up = machine.memcached(), machine.servers(1)[0]
     mcv = machine.mcv(hung_beside(text, up), server_timeout=600)
     freeze(process)
@@ -386,3 +492,17 @@ def a_server_by_the_name_localhost(machine):
         client.ask(stored(b"a", b"1") + b"get a\r\ndelete a\r\n", b"STORED\r\n" + value_answer(b"a", b"1") + b"DELETED\r\n")
     with Client(server) as client:
         client.ask(b"get a\r\n", b"END\r\n")
+
+
+@case()
+def a_server_by_a_name_that_nobody_has_stops_no_other(machine):
+    """`.invalid` is never anybody's (RFC 6761). What is asked of it fails, as of a server that is away."""
+    up = machine.servers(1)[0]
+    mcv = machine.mcv(hung_beside("mcv.invalid:11211", up), server_timeout=20000)
+    with mcv.client() as client, mcv.client() as other:
+        for number in range(5):
+            client.send(b"get hung\r\n")
+            other.ask(stored(b"k", b"%d" % number) + b"get k\r\n", b"STORED\r\n" + value_answer(b"k", b"%d" % number))
+            expect(client.line(), FAILED)
+        client.ask(b"delete hung\r\n", b"NOT_FOUND\r\n")
+    expect(pending(machine.path("mcv.spool")), [(b"mcv.invalid:11211", b"hung")])

@@ -9,4 +9,4 @@ pub refuse-requires : goal.refuse-requires
 refuse-requires g c = inl refl
 
 pub returns : goal.returns
-returns g c = goes_on c.args.mixed.now c.args.number c.in-Some.one.now c.refuse.new.self (sym c.in-Some.ensures.value) c.refuse.ensures
+returns g c = goes_on c.args.mixed.now c.args.place c.in-Some.one.now c.refuse.new.self (sym c.in-Some.ensures.value) c.refuse.ensures

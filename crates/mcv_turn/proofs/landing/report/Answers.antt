@@ -13,5 +13,5 @@ returns-clause-reported g c = record { result = c.land-landed.result; landing = 
 pub returns-clause-performed : goal.returns-clause-performed
 returns-clause-performed g c =
     let P : Dispatcher → Type 0 = λ d. records_of d c.args.arrival.leg.0 ≡ c.record-number.result in
-    was_performed c.record-number.result c.args.arrival.server c.args.arrival.leg c.args.arrival.reply c.args.guard.now c.land-landed.new.guard c.land-landed.result (subst P c.core.ensures (sym c.record-number.ensures)) c.land-landed.ensures
+    was_performed c.record-number.result c.args.arrival c.args.guard.now c.land-landed.new.guard c.land-landed.result (subst P c.core.ensures (sym c.record-number.ensures)) c.land-landed.ensures
     (c.has_performed.ensures c.if-not-has_performed.false)

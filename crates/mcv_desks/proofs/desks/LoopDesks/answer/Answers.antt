@@ -3,7 +3,19 @@ use Rattle.std.specs.Arc.{arc_value}
 use Rattle.mcv_session.specs.Desk.{answer_value}
 use Rattle.mcv_text.specs.Request.{request_value}
 use Rattle.mcv_desks.specs.Desks.{AsksHubs}
+use Rattle.mcv_desks.proofs.OpenDesks.{less_behind, same_on, same_open}
 use Rattle.mcv_desks.proofs.desks.LoopDesks.answer.Goals as goal
 
+pub loop-hub-init : goal.loop-hub-init
+loop-hub-init g c = same_open c.args.self.now
+
+pub loop-hub-preserved : goal.loop-hub-preserved
+loop-hub-preserved g c = same_on c.args.self.now c.loop-hub.self c.answer_of.new.self c.loop-hub.invariant c.in_default.ensures.none
+
+pub returns-in-Some-clause-answered : goal.returns-in-Some-clause-answered
+returns-in-Some-clause-answered g c =
+    let h = c.in-Some.ensures.answered in
+    (h.0, h.1, less_behind c.args.self.now c.loop-hub.self c.answer_of.new.self h.0 (request_value (arc_value c.in-Some.answer.request)) c.loop-hub.invariant h.2)
+
 pub returns-in-Some-clause-answer : goal.returns-in-Some-clause-answer
-returns-in-Some-clause-answer g c = subst (λ (hubs : ℕ). AsksHubs g.F.HubNames.opened_of hubs (request_value (arc_value c.in-Some.answer.request)) (answer_value c.in-Some.answer.outcome)) c.loop-hub.invariant c.in-Some.ensures.answer
+returns-in-Some-clause-answer g c = subst (λ (hubs : ℕ). AsksHubs g.F.HubNames.opened_of hubs (request_value (arc_value c.in-Some.answer.request)) (answer_value c.in-Some.answer.outcome)) c.loop-hub.invariant.hubs c.in-Some.ensures.answer

@@ -1,5 +1,5 @@
-use Rattle.std.proofs.Common.{◌≡◌}
+use Rattle.mcv_desks.specs.Open.{AreSameRequests}
 use Rattle.mcv_desks.proofs.desks.LoopDesks.answer.Given as goal
 
 abbrev pub invariant-loop-hub : goal.invariant-loop-hub
-invariant-loop-hub g l = l.self ≡ l.fn.self
+invariant-loop-hub g l = AreSameRequests l.fn.self l.self

@@ -1,5 +1,5 @@
-use Rattle.std.proofs.Common.{◌≡◌}
+use Rattle.mcv_desks.specs.Open.{AreSameRequests}
 use Rattle.mcv_desks.proofs.desks.LoopDesks.answer_of.Given as goal
 
 abbrev pub invariant-loop-answer : goal.invariant-loop-answer
-invariant-loop-answer g l = l.self ≡ l.fn.self
+invariant-loop-answer g l = AreSameRequests l.fn.self l.self

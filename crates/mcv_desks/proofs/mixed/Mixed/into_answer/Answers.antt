@@ -10,7 +10,7 @@ use Rattle.mcv_desks.proofs.mixed.Mixed.into_answer.Goals as goal
 pub outcome_of-outcome-requires-clause-each : goal.outcome_of-outcome-requires-clause-each
 outcome_of-outcome-requires-clause-each g c =
     let m = c.self.inside in
-    let q : MixedRequest = record { serial = m.serial; session = m.session; hubs = m.hubs; asked = arc_value m.request } in
+    let q : MixedRequest = record { serial = m.serial; number = m.number; hubs = m.hubs; asked = arc_value m.request } in
     each_replied g.F.HubNames.opened_of q m.of_keys.items m.replies.items m.parts m.answered m.fault c.self.invariant (subst IsDone (sym c.self.view_is) c.requires)
 
 pub outcome_of-outcome-requires-clause-room : goal.outcome_of-outcome-requires-clause-room
@@ -22,6 +22,6 @@ outcome_of-outcome-requires-clause-room g c =
 pub returns-clause-answer : goal.returns-clause-answer
 returns-clause-answer g c =
     let m = c.self.inside in
-    let q : MixedRequest = record { serial = m.serial; session = m.session; hubs = m.hubs; asked = arc_value m.request } in
+    let q : MixedRequest = record { serial = m.serial; number = m.number; hubs = m.hubs; asked = arc_value m.request } in
     let is = mixed_answer g.F.HubNames.opened_of q m.of_keys.items m.replies.items m.parts m.answered m.fault c.self.invariant c.outcome_of-outcome.result c.outcome_of-outcome.ensures.ok c.outcome_of-outcome.ensures.err in
     subst (λ (v : MixedView). AsksHubs g.F.HubNames.opened_of v.request.hubs (request_value v.request.asked) (answer_value c.outcome_of-outcome.result)) c.self.view_is is

@@ -14,7 +14,7 @@ pub invariant_of-self-2 : goal.invariant_of-self-2
 invariant_of-self-2 g c =
     let opened_of = g.F.HubNames.opened_of in
     let m = c.self.inside in
-    let q : MixedRequest = record { serial = m.serial; session = m.session; hubs = m.hubs; asked = arc_value m.request } in
+    let q : MixedRequest = record { serial = m.serial; number = m.number; hubs = m.hubs; asked = arc_value m.request } in
     let key = c.args.key in
     let asked : IsKeyAnswer opened_of q key (answer_value (Ok c.args.parts)) = subst (λ (v : MixedView). IsKeyAnswer opened_of v.request key (answer_value (Ok c.args.parts))) (sym c.self.view_is) c.requires in
     let is = subst (λ (ps : List Part). IsAnswer (opened_of asked.hub) (only_key (request_value q.asked) key) (Ok (map part_value ps))) c.in-Some.ensures.items asked.is in
@@ -25,5 +25,5 @@ invariant_of-self-2 g c =
 pub invariant_of-self : goal.invariant_of-self
 invariant_of-self g c =
     let m = c.self.inside in
-    let q : MixedRequest = record { serial = m.serial; session = m.session; hubs = m.hubs; asked = arc_value m.request } in
+    let q : MixedRequest = record { serial = m.serial; number = m.number; hubs = m.hubs; asked = arc_value m.request } in
     subst (λ rs. IsMixed g.F.HubNames.opened_of q m.of_keys.items rs m.parts m.answered m.fault) (sym (c.fill.ensures.kept c.if-not-fill.true)) c.self.invariant

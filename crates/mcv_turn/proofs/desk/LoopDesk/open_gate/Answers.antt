@@ -1,11 +1,11 @@
-use Rattle.std.proofs.Common.{refl}
+use Rattle.std.proofs.Common.{refl, rules}
 use Rattle.mcv_turn.proofs.desk.LoopDesk.open_gate.Goals as goal
 
-pub returns-in-Open : goal.returns-in-Open
-returns-in-Open g c = (c.gate.result, c.gate.ensures, rw c.in-Open.is refl)
+pub returns-in-Open-clause-gate : goal.returns-in-Open-clause-gate
+returns-in-Open-clause-gate g c = (c.gate.result, c.gate.ensures, rw c.in-Open.is refl, rw c.in-Open.is refl)
 
-pub returns-in-Turned : goal.returns-in-Turned
-returns-in-Turned g c = (c.gate.result, c.gate.ensures, rw c.in-Turned.is refl)
+pub returns-in-Turned-clause-gate : goal.returns-in-Turned-clause-gate
+returns-in-Turned-clause-gate g c = (c.gate.result, c.gate.ensures, rw c.in-Turned.is refl, rw c.in-Turned.is (search rules))
 
-pub returns-in-Closed : goal.returns-in-Closed
-returns-in-Closed g c = (c.gate.result, c.gate.ensures, rw c.in-Closed.is refl)
+pub returns-in-Closed-clause-gate : goal.returns-in-Closed-clause-gate
+returns-in-Closed-clause-gate g c = (c.gate.result, c.gate.ensures, rw c.in-Closed.is refl, rw c.in-Closed.is refl)

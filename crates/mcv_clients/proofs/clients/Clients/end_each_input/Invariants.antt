@@ -1,0 +1,9 @@
+use Rattle.std.proofs.Common.{◌≡◌}
+use Rattle.mcv_clients.specs.Clients.{AreLeft}
+use Rattle.mcv_clients.proofs.clients.Clients.end_each_input.Given as goal
+
+abbrev pub invariant-loop-number : goal.invariant-loop-number
+invariant-loop-number g l = record {
+  left : AreLeft l.fn.self.clients l.self.clients;
+  desks : l.self.desks ≡ l.fn.self.desks;
+}

@@ -1,0 +1,19 @@
+use Rattle.std.proofs.Common.{◌∙◌, refl}
+use Rattle.mcv_clients.proofs.Tables.{askers_on, askers_same, left_on, left_same}
+use Rattle.mcv_clients.proofs.clients.Clients.expire.Goals as goal
+
+pub loop-number-init : goal.loop-number-init
+loop-number-init g c =
+    let s = c.args.self.now.clients in
+    record { left = left_same s s (λ number. refl); askers = askers_same s s (λ number. refl); desks = refl }
+
+pub loop-number-preserved : goal.loop-number-preserved
+loop-number-preserved g c =
+    let old = c.args.self.now.clients in
+    let mid = c.loop-number.self.clients in
+    let new = c.expire_one.new.self.clients in
+    record {
+      left = left_on old mid new c.loop-number.invariant.left c.expire_one.ensures.left;
+      askers = askers_on old mid new c.loop-number.invariant.askers c.expire_one.ensures.askers;
+      desks = c.expire_one.ensures.desks ∙ c.loop-number.invariant.desks;
+    }

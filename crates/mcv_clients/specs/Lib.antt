@@ -1,0 +1,4 @@
+pub mod Life
+pub mod Steps
+pub mod Asking
+pub mod Clients

@@ -1,4 +1,0 @@
-pub mod Crossing
-mod Examples
-mod KeysOfHubs
-mod OneKeys

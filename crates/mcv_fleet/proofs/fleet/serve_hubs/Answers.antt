@@ -1,9 +1,0 @@
-use Rattle.std.proofs.Common.{◌∙◌, ap, sym}
-use Rattle.std.specs.Arc.{arc_value}
-use Rattle.mcv_core.specs.Opening.{opened_within}
-use Rattle.mcv_hubs.specs.Choice.{records_at}
-use Rattle.mcv_fleet.proofs.fleet.serve_hubs.Goals as goal
-
--- each hub is opened with the records of its keys
-pub open_hubs-requires-clause-opened : goal.open_hubs-requires-clause-opened
-open_hubs-requires-clause-opened g c = λ hub. c.requires.opened hub ∙ ap (λ records. opened_within 1 (arc_value c.args.accepted) (records_at c.args.choice hub records)) (sym c.as_slice.ensures.value)

@@ -1,0 +1,11 @@
+//! Tests of `mcv_poll`, apart from it, so that it isn't proved a second time for them.
+#![tactic(auto)]
+
+#[cfg(test)]
+mod gate;
+#[cfg(test)]
+mod office;
+#[cfg(test)]
+mod play;
+#[cfg(test)]
+mod rows;

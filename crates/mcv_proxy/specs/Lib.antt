@@ -1,4 +1,0 @@
-pub mod Desk
-pub mod Events
-pub mod Flights
-pub mod Steps

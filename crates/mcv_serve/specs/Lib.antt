@@ -1,0 +1,3 @@
+pub mod Faults
+pub mod Pending
+pub mod Reports
