@@ -6,7 +6,7 @@ import threading
 import time
 
 from listening import Listening
-from parts import value_answer
+from parts import LIMIT, one_pool, value_answer
 
 PERFORM, REFUSE, DROP, PERFORM_AND_DROP, SILENCE = "perform", "refuse", "drop", "perform and drop", "silence"
 PERFORM_SILENTLY, BREAK_OFF = "perform silently", "break off"
@@ -101,6 +101,23 @@ class Fake(Listening):
         self.drop()
 
 
+class Late(Fake):
+    """A server that performs what it is asked once it is let by `goes`, and so many seconds later without that."""
+
+    def __init__(self, values=None, most=LIMIT):
+        self.goes = threading.Event()
+
+        def mood():
+            self.goes.wait(most)
+            return PERFORM
+
+        super().__init__(mood, values=values)
+
+    def close(self):
+        self.goes.set()
+        super().close()
+
+
 class Unaccepting(Fake):
     """A server that takes no connection before it is told to: those that are begun hang."""
 
@@ -126,6 +143,13 @@ class Unaccepting(Fake):
     def close(self):
         self.accepts.set()
         super().close()
+
+
+def moody(machine, **how):
+    """A mood in a list, where a case changes it, a server that has it, and an `mcv` for that server alone."""
+    mood = [PERFORM]
+    fake = machine.fake(Fake(lambda: mood[0]))
+    return mood, fake, machine.mcv(one_pool([fake.text]), **how)
 
 
 class Together(Listening):

@@ -29,9 +29,19 @@ def shown(value):
     return text if len(text) <= 400 else text[:200] + " .. " + text[-200:]
 
 
+def around_difference(found, wanted):
+    """Where two texts begin to differ, and what each has there."""
+    at = next((n for n, (one, other) in enumerate(zip(found, wanted)) if one != other), min(len(found), len(wanted)))
+    before = max(0, at - 40)
+    return "at byte %d %s in place of %s" % (at, shown(found[before:at + 120]), shown(wanted[before:at + 40]))
+
+
 def expect(found, wanted, what="another answer"):
-    if found != wanted:
-        raise Failed("%s: %s in place of %s" % (what, shown(found), shown(wanted)))
+    if found == wanted:
+        return
+    if isinstance(found, bytes) and isinstance(wanted, bytes) and len(wanted) > 300:
+        raise Failed("%s: %s" % (what, around_difference(found, wanted)))
+    raise Failed("%s: %s in place of %s" % (what, shown(found), shown(wanted)))
 
 
 def wait_for(condition, what, limit=LIMIT):
@@ -356,9 +366,11 @@ def replayed(machine, mcv, spool, text, keys):
     wait_for(lambda: not pending(spool), "each record is marked as done")
 
 
-def case(seconds=60):
-    """Marks a function as a case that may take so many seconds."""
+def case(seconds=60, stall=None):
+    """Marks a function as a case that may take so many seconds. Where it fails on a machine that stood still for `stall` seconds, that
+    says nothing, and it runs again."""
     def marked(function):
         function.seconds = seconds
+        function.stall = stall
         return function
     return marked

@@ -7,7 +7,7 @@ use Rattle.mcv_clients.specs.Asking.{AreAsked, AskingView}
 -- nothing was asked
 pub none_asked : (was now : AskingView) → was ≡ now → (now.next ≤ was.next) × AreSameRequests now.desks was.desks
 none_asked was now same =
-    subst (λ (v : AskingView). (v.next ≤ was.next) × AreSameRequests v.desks was.desks) same (omega arith, record { hubs = refl; none_opens = λ number request its_open. its_open; none_closes = λ number request its_open. its_open })
+    subst (λ (v : AskingView). (v.next ≤ was.next) × AreSameRequests v.desks was.desks) same (omega arith, record { hubs = refl; most = refl; none_opens = λ number request its_open. its_open; none_closes = λ number request its_open. its_open })
 
 -- no request opens
 pub asked_before : (d e : DesksView) (next later : ℕ) → NoneOpens d e → next ≤ later → AreAsked d next → AreAsked e later

@@ -1,12 +1,13 @@
 //! The desks, and who asks them.
 
-ghost use Rattle.std.specs.Prelude.{◌≡◌, ◌↔◌, ◌<◌, ◌≤◌, ◌+◌, true, IfNone, IfOk, IfSome};
+ghost use Rattle.std.specs.Prelude.{◌≡◌, ◌↔◌, ◌<◌, ◌≤◌, ◌+◌, true, IfNone, IfOk, IfSome, sum_by};
 ghost use Rattle.std.specs.Arc.{arc_value};
 ghost use Rattle.mcv_desks.specs.Desks.{AsksHubs};
 ghost use Rattle.mcv_desks.specs.Open.{AreSameRequests, IsOneLess, IsOneMore, IsOpen, asked_of, entering_of, servers_of};
 ghost use Rattle.mcv_session.specs.Desk.{answer_value};
 ghost use Rattle.mcv_text.specs.Request.{RequestValue, request_value};
 ghost use Rattle.mcv_turn.specs.Shown.{is_known_marked};
+ghost use Rattle.mcv_turn.specs.Values.{value_bytes};
 
 use mcv_base::{Part, Request, ServerId};
 use mcv_desks::LoopDesks;
@@ -50,15 +51,17 @@ pub(crate) struct Answered {
 }
 
 impl<'a, F: HubNames, G: Names> Asking<'a, F, G> {
-    /// Desks that were asked nothing. An error is that memory ran out.
+    /// Desks that were asked nothing, whose answers may have values of so many bytes together. An error is that memory ran out.
     pub(crate) fn new(
         alloc: Global,
         hubs: &'a Hubs<F, G>,
         seats: Seats<F, G>,
+        most: usize,
     ) -> Result<Asking<'a, F, G>, AllocError>
-        ensures { IfOk result (λ a. a.desks.hubs ≡ hubs.now.choice) }
+        ensures hubs { IfOk result (λ a. a.desks.hubs ≡ hubs.now.choice) }
+        ensures most { IfOk result (λ a. a.desks.most ≡ most) }
     {
-        let desks = LoopDesks::new(alloc, hubs, seats)?;
+        let desks = LoopDesks::new(alloc, hubs, seats, most)?;
         Ok(Asking {
             desks,
             next: 0,
@@ -113,6 +116,7 @@ impl<'a, F: HubNames, G: Names> Asking<'a, F, G> {
         ensures answered { IfSome result (λ a. IsOneLess self.old.desks self.new.desks a.serial (request_value (arc_value a.request))) }
         ensures none { IfNone result (AreSameRequests self.old.desks self.new.desks) }
         ensures answer { IfSome result (λ a. AsksHubs F.opened_of self.old.desks.hubs (request_value (arc_value a.request)) (answer_value a.outcome)) }
+        ensures within { IfSome result (λ a. IfOk a.outcome (λ parts. sum_by value_bytes parts.items ≤ self.old.desks.most)) }
     {
         let Some(answer) = self.desks.answer() else {
             return None;

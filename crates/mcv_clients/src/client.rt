@@ -11,9 +11,9 @@ ghost use Rattle.mcv_text.specs.Stream.{Awaits};
 ghost use Rattle.mcv_clients.specs.Life.{IsAnswered, IsToldOf, came_client, wire};
 ghost use Rattle.mcv_clients.specs.Steps.{Goes, Told};
 
-use crate::limits::{MOST_OUTPUT, has_passed};
+use crate::limits::MOST_OUTPUT;
 use mcv_base::{Part, Request};
-use mcv_connection::{Connection, Received, Sent, receive, send};
+use mcv_connection::{Connection, Received, Sent, has_passed, receive, send};
 use mcv_hubs::HubNames;
 use mcv_session::{
     DeskFault, Machine, Phase, life_begins, life_of_answering, life_of_failing, life_of_feeding,

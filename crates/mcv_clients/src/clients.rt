@@ -68,18 +68,21 @@ fn piece_room(alloc: Global) -> Result<Vec<u8>, AllocError>
 }
 
 impl<'a, F: HubNames, G: Names, C: Connection> Clients<'a, F, G, C> {
-    /// No clients, and desks that were asked nothing. An error is that memory ran out.
+    /// No clients, and desks that were asked nothing, whose answers may have values of so many bytes together. An error is that memory
+    /// ran out.
     pub fn new(
         alloc: Global,
         hubs: &'a Hubs<F, G>,
         seats: Seats<F, G>,
+        most: usize,
     ) -> Result<Clients<'a, F, G, C>, AllocError>
         ensures none { IfOk result (λ c. c.clients.slots ≡ []) }
         ensures hubs { IfOk result (λ c. c.desks.hubs ≡ hubs.now.choice) }
+        ensures most { IfOk result (λ c. c.desks.most ≡ most) }
         ensures idle { IfOk result (λ c. c.touched ≡ []) }
     {
         let room = piece_room(alloc)?;
-        let asking = Asking::new(alloc, hubs, seats)?;
+        let asking = Asking::new(alloc, hubs, seats, most)?;
         Ok(Clients {
             alloc,
             clients: Slab::new(alloc),

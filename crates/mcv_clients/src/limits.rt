@@ -1,7 +1,5 @@
 //! How much of a client is served at a time.
 
-use std::time::{Duration, Instant};
-
 /// The bytes of one read.
 pub(crate) const PIECE: usize = 16_384;
 
@@ -13,15 +11,3 @@ pub(crate) const MOST_OUTPUT: usize = 1 << 20;
 
 /// More turns than come.
 pub(crate) const TURNS: u64 = u64::MAX;
-
-/// Whether so much time or more has passed since a moment. Not where one of them isn't known.
-pub(crate) fn has_passed(
-    since: Option<Instant>,
-    now: Option<Instant>,
-    limit: Option<Duration>,
-) -> bool {
-    match (since, now, limit) {
-        (Some(since), Some(now), Some(limit)) => now.duration_since(since) >= limit,
-        _ => false,
-    }
-}

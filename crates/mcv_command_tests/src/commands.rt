@@ -55,26 +55,26 @@ mcv mend --patch=yes: bad line
 mcv mend --patch --patch: bad line
 mcv mend mcrouter.json: bad line
 mcv mend --window 60: bad line
-mcv run --listen h:1 --spool f: run h:1 f - 1 0 - - - -
-mcv run --spool=f --listen=h:1 --sessions=+7: run h:1 f 7 1 0 - - - -
-mcv run --listen h:1 --spool f --sessions 1: run h:1 f 1 1 0 - - - -
-mcv run --listen h:1 --spool f --sessions 1000000000: run h:1 f 1000000000 1 0 - - - -
+mcv run --listen h:1 --spool f: run h:1 f - 1 0 - - - 67108864 -
+mcv run --spool=f --listen=h:1 --sessions=+7: run h:1 f 7 1 0 - - - 67108864 -
+mcv run --listen h:1 --spool f --sessions 1: run h:1 f 1 1 0 - - - 67108864 -
+mcv run --listen h:1 --spool f --sessions 1000000000: run h:1 f 1000000000 1 0 - - - 67108864 -
 mcv run --listen h:1 --spool f --sessions 1000000001: bad line
 mcv run --listen h:1 --spool f --sessions 0: bad line
 mcv run --listen h:1 --spool f --sessions -1: bad line
 mcv run --listen h:1 --spool f --sessions all: bad line
 mcv run --listen h:1 --spool f --sessions: bad line
 mcv run --listen h:1 --spool f --sessions 1 --sessions 2: bad line
-mcv run --listen h:1 --spool f --hubs 1: run h:1 f - 1 0 - - - -
-mcv run --listen h:1 --spool f --hubs=8 --sessions 7: run h:1 f 7 8 0 - - - -
+mcv run --listen h:1 --spool f --hubs 1: run h:1 f - 1 0 - - - 67108864 -
+mcv run --listen h:1 --spool f --hubs=8 --sessions 7: run h:1 f 7 8 0 - - - 67108864 -
 mcv run --listen h:1 --spool f --hubs 9: bad line
 mcv run --listen h:1 --spool f --hubs 0: bad line
 mcv run --listen h:1 --spool f --hubs auto: bad line
 mcv run --listen h:1 --spool f --hubs: bad line
 mcv run --listen h:1 --spool f --hubs 1 --hubs 2: bad line
-mcv run --listen h:1 --spool f --server-timeout 200: run h:1 f - 1 0 200 - - -
-mcv run --listen h:1 --spool f --server-timeout=1 --client-timeout=3600000: run h:1 f - 1 0 1 3600000 - -
-mcv run --listen h:1 --spool f --client-timeout 200: run h:1 f - 1 0 - 200 - -
+mcv run --listen h:1 --spool f --server-timeout 200: run h:1 f - 1 0 200 - - 67108864 -
+mcv run --listen h:1 --spool f --server-timeout=1 --client-timeout=3600000: run h:1 f - 1 0 1 3600000 - 67108864 -
+mcv run --listen h:1 --spool f --client-timeout 200: run h:1 f - 1 0 - 200 - 67108864 -
 mcv run --listen h:1 --spool f --server-timeout 0: bad line
 mcv run --listen h:1 --spool f --server-timeout 3600001: bad line
 mcv run --listen h:1 --spool f --server-timeout 1s: bad line
@@ -82,13 +82,20 @@ mcv run --listen h:1 --spool f --server-timeout: bad line
 mcv run --listen h:1 --spool f --client-timeout 0: bad line
 mcv run --listen h:1 --spool f --client-timeout 3600001: bad line
 mcv run --listen h:1 --spool f --client-timeout 1 --client-timeout 1: bad line
-mcv run --listen h:1 --spool f --max-clients 1000000: run h:1 f - 1 0 - - 1000000 -
+mcv run --listen h:1 --spool f --max-clients 1000000: run h:1 f - 1 0 - - 1000000 67108864 -
 mcv run --listen h:1 --spool f --max-clients 0: bad line
 mcv run --listen h:1 --spool f --max-clients 1000001: bad line
-mcv run --listen h:1 --spool f --admin a:2: run h:1 f - 1 0 - - - a:2
+mcv run --listen h:1 --spool f --answer-bytes 1: run h:1 f - 1 0 - - - 1 -
+mcv run --listen h:1 --spool f --answer-bytes=1099511627776: run h:1 f - 1 0 - - - 1099511627776 -
+mcv run --listen h:1 --spool f --answer-bytes 0: bad line
+mcv run --listen h:1 --spool f --answer-bytes 1099511627777: bad line
+mcv run --listen h:1 --spool f --answer-bytes 64M: bad line
+mcv run --listen h:1 --spool f --answer-bytes: bad line
+mcv run --listen h:1 --spool f --answer-bytes 1 --answer-bytes 1: bad line
+mcv run --listen h:1 --spool f --admin a:2: run h:1 f - 1 0 - - - 67108864 a:2
 mcv run --listen h:1 --spool f --admin a:2 --admin a:2: bad line
-mcv run --listen= --spool=: run   - 1 0 - - - -
-mcv run --listen h:1 --spool f --window 60: run h:1 f - 1 60 - - - -
+mcv run --listen= --spool=: run   - 1 0 - - - 67108864 -
+mcv run --listen h:1 --spool f --window 60: run h:1 f - 1 60 - - - 67108864 -
 mcv run --listen h:1 --spool f --window 4294967296: bad line
 mcv run: bad line
 mcv run --listen h:1: bad line
@@ -161,8 +168,9 @@ fn order_text(rt: &(impl AllocGlobal + Abort), options: RunOptions<'_>) -> Strin
     let server = number_text(rt, settings.server_timeout.map(|timeout| timeout.millis));
     let client = number_text(rt, settings.client_timeout.map(|timeout| timeout.millis));
     let clients = number_text(rt, settings.max_clients.map(|clients| clients.count));
+    let bytes = settings.answer_bytes.bytes;
     let text = format!(in rt.alloc();
-        "{listen} {spool} {sessions} {hubs} {window} {server} {client} {clients} {admin}"
+        "{listen} {spool} {sessions} {hubs} {window} {server} {client} {clients} {bytes} {admin}"
     );
     text.expect(rt, "memory")
 }
@@ -444,6 +452,8 @@ const RUN_PARTS: &[&str] = &[
     "--server-timeout <MS>",
     "--client-timeout <MS>",
     "--max-clients <N>",
+    "--answer-bytes <N>",
+    "[default: 67108864]",
     "--admin <ADDRESS>",
     "the keys whose hash names\nit",
     "\n  mcv run --listen 127.0.0.1:5000 --spool mcv.spool --server-timeout 1000 \\\n    < mcrouter.json\n",

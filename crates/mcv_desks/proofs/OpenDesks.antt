@@ -107,11 +107,12 @@ module _ (old new : ℕ → Slab QuestionView) (hub : ℕ) (change : Slab Questi
 -- ---- place by place
 
 pub in_place : (v : DesksView) → AreInPlace v v
-in_place v = record { hubs = refl; mixed = λ place. refl; kept = λ hub within place number request there. there; no_more = λ hub within place number request there. there }
+in_place v = record { hubs = refl; most = refl; mixed = λ place. refl; kept = λ hub within place number request there. there; no_more = λ hub within place number request there. there }
 
 pub in_place_on : (old mid new : DesksView) → AreInPlace old mid → AreInPlace mid new → AreInPlace old new
 in_place_on old mid new h k = record {
   hubs = k.hubs ∙ h.hubs;
+  most = k.most ∙ h.most;
   mixed = λ place. k.mixed place ∙ h.mixed place;
   kept = λ hub within place number request there. k.kept hub within place number request (h.kept hub within place number request there);
   no_more = λ hub within place number request there. h.no_more hub within place number request (k.no_more hub within place number request there);
@@ -125,6 +126,7 @@ open_still old new mixed kept number request (of_several place q there n r) = of
 pub in_place_open : (old new : DesksView) → AreInPlace old new → AreSameRequests old new
 in_place_open old new h = record {
   hubs = h.hubs;
+  most = h.most;
   none_opens = open_still new old (λ place q there. sym (h.mixed place) ∙ there) h.no_more;
   none_closes = open_still old new (λ place q there. h.mixed place ∙ there) h.kept;
 }
@@ -137,6 +139,7 @@ same_open v = in_place_open v v (in_place v)
 pub same_on : (old mid new : DesksView) → AreSameRequests old mid → AreSameRequests mid new → AreSameRequests old new
 same_on old mid new h k = record {
   hubs = k.hubs ∙ h.hubs;
+  most = k.most ∙ h.most;
   none_opens = λ number request o. h.none_opens number request (k.none_opens number request o);
   none_closes = λ number request o. k.none_closes number request (h.none_closes number request o);
 }
@@ -144,6 +147,7 @@ same_on old mid new h k = record {
 pub less_behind : (old mid new : DesksView) (number : ℕ) (request : RequestValue) → AreSameRequests old mid → IsOneLess mid new number request → IsOneLess old new number request
 less_behind old mid new number request h k = record {
   hubs = k.hubs ∙ h.hubs;
+  most = k.most ∙ h.most;
   was = h.none_opens number request k.was;
   none_opens = λ other its o. h.none_opens other its (k.none_opens other its o);
   others = λ other its apart o. k.others other its apart (h.none_closes other its o);
@@ -156,10 +160,11 @@ none_is_open v mixed none number request (of_several place q there n r) = no_som
 
 -- ---- one desk changes
 
-module _ (old new : DesksView) (hubs : new.hubs ≡ old.hubs) (mixed : (place : ℕ) → (mixed_of new) place ≡ (mixed_of old) place) where
+module _ (old new : DesksView) (hubs : new.hubs ≡ old.hubs) (most : new.most ≡ old.most) (mixed : (place : ℕ) → (mixed_of new) place ≡ (mixed_of old) place) where
   pub all_same : ((hub : ℕ) → AreSameOpen ((questions_of old) hub) ((questions_of new) hub)) → AreInPlace old new
   all_same same = record {
     hubs = hubs;
+    most = most;
     mixed = mixed;
     kept = λ hub within. same_carries ((questions_of old) hub) ((questions_of new) hub) (same hub);
     no_more = λ hub within. same_carries_back ((questions_of old) hub) ((questions_of new) hub) (same hub);
@@ -169,6 +174,7 @@ module _ (old new : DesksView) (hubs : new.hubs ≡ old.hubs) (mixed : (place : 
     pub one_same : AtOne AreSameOpen hub (questions_of old) (questions_of new) → AreInPlace old new
     one_same h = record {
       hubs = hubs;
+      most = most;
       mixed = mixed;
       kept = all_carry (questions_of old) (questions_of new) hub AreSameOpen h (same_carries ((questions_of old) hub) ((questions_of new) hub));
       no_more = all_carry_back (questions_of old) (questions_of new) hub AreSameOpen h (same_carries_back ((questions_of old) hub) ((questions_of new) hub));
@@ -179,6 +185,7 @@ module _ (old new : DesksView) (hubs : new.hubs ≡ old.hubs) (mixed : (place : 
         let its : AtOne (λ o n. Opens o n (Key at serial key) what) hub (questions_of old) (questions_of new) = record { here = h.here.0; others = h.others } in
         record {
           hubs = hubs;
+          most = most;
           mixed = mixed;
           kept = all_carry (questions_of old) (questions_of new) hub (λ o n. Opens o n (Key at serial key) what) its (opens_carries ((questions_of old) hub) ((questions_of new) hub) (Key at serial key) what);
           no_more = all_carry_back (questions_of old) (questions_of new) hub (λ o n. Opens o n (Key at serial key) what) its (key_comes ((questions_of old) hub) ((questions_of new) hub) at serial key what);
@@ -188,6 +195,7 @@ module _ (old new : DesksView) (hubs : new.hubs ≡ old.hubs) (mixed : (place : 
     pub key_answered : (at serial key : ℕ) (what : RequestValue) → AtOne (λ o n. Closes o n (Key at serial key) what) hub (questions_of old) (questions_of new) → AreInPlace old new
     key_answered at serial key what h = record {
       hubs = hubs;
+      most = most;
       mixed = mixed;
       kept = all_carry (questions_of old) (questions_of new) hub (λ o n. Closes o n (Key at serial key) what) h (key_goes ((questions_of old) hub) ((questions_of new) hub) at serial key what);
       no_more = all_carry_back (questions_of old) (questions_of new) hub (λ o n. Closes o n (Key at serial key) what) h (closes_back ((questions_of old) hub) ((questions_of new) hub) (Key at serial key) what);
@@ -210,6 +218,7 @@ module _ (old new : DesksView) (hubs : new.hubs ≡ old.hubs) (mixed : (place : 
         pub one_comes : IsOneMore old new number request
         one_comes = record {
           hubs = hubs;
+          most = most;
           is_open = at_one hub h.here.number within h.here.put;
           others = its_or_was;
           none_closes = open_still old new (λ place q there. mixed place ∙ there) (all_carry (questions_of old) (questions_of new) hub (λ o n. Opens o n (Session number) request) h (opens_carries ((questions_of old) hub) ((questions_of new) hub) (Session number) request));
@@ -231,6 +240,7 @@ module _ (old new : DesksView) (hubs : new.hubs ≡ old.hubs) (mixed : (place : 
         pub one_goes : IsOneLess old new number request
         one_goes = record {
           hubs = hubs;
+          most = most;
           was = at_one hub h.here.number within h.here.was;
           none_opens = open_still new old (λ place q there. sym (mixed place) ∙ there) (all_carry_back (questions_of old) (questions_of new) hub (λ o n. Closes o n (Session number) request) h (closes_back ((questions_of old) hub) ((questions_of new) hub) (Session number) request));
           others = stays;
@@ -260,13 +270,14 @@ module _ (old new : DesksView) (place number : ℕ) (request : RequestValue) (h 
   pub taken_is_less : IsOneLess old new number request
   taken_is_less = record {
     hubs = h.hubs;
+    most = h.most;
     was = of_several place h.q h.there h.number_is h.request_is;
     none_opens = open_still new old (λ at q there. elim (cases_eq at place) [ inl same ↦ no_some (sym h.gone ∙ sym (ap (mixed_of new) same) ∙ there) | inr away ↦ sym (h.others at away) ∙ there ]) h.no_more;
     others = remains;
   }
 
 -- it comes to a place that had none
-module _ (old mid : DesksView) (hubs : mid.hubs ≡ old.hubs) (place number : ℕ) (q : MixedRequest) (vacant : (mixed_of old) place ≡ None) (put : (mixed_of mid) place ≡ Some q) (others : (other : ℕ) → (other ≡ place → ⊥) → (mixed_of mid) other ≡ (mixed_of old) other) (questions : (questions_of mid) ≡ (questions_of old)) where
+module _ (old mid : DesksView) (hubs : mid.hubs ≡ old.hubs) (most : mid.most ≡ old.most) (place number : ℕ) (q : MixedRequest) (vacant : (mixed_of old) place ≡ None) (put : (mixed_of mid) place ≡ Some q) (others : (other : ℕ) → (other ≡ place → ⊥) → (mixed_of mid) other ≡ (mixed_of old) other) (questions : (questions_of mid) ≡ (questions_of old)) where
   carries : CarriesAll (questions_of old) (questions_of mid)
   carries hub within at other its there = ap (λ (s : ℕ → Slab QuestionView). open_at (s hub) at) questions ∙ there
 
@@ -292,6 +303,7 @@ module _ (old mid : DesksView) (hubs : mid.hubs ≡ old.hubs) (place number : �
         let same = in_place_open mid new h in
         record {
           hubs = h.hubs ∙ hubs;
+          most = h.most ∙ most;
           is_open = of_several place q (h.mixed place ∙ put) number_is request_is;
           others = λ other its o. came_or_was other its (same.none_opens other its o);
           none_closes = λ other its o. same.none_closes other its (was_kept other its o);
@@ -302,6 +314,7 @@ module _ (old mid : DesksView) (hubs : mid.hubs ≡ old.hubs) (place number : �
   several_gone now new its request h k =
       in_place_open old new (record {
         hubs = k.hubs ∙ h.hubs ∙ hubs;
+        most = k.most ∙ h.most ∙ most;
         mixed = λ at. elim (cases_eq at place) [ inl same ↦ ap (mixed_of new) same ∙ k.gone ∙ sym vacant ∙ sym (ap (mixed_of old) same) | inr away ↦ k.others at away ∙ h.mixed at ∙ others at away ];
         kept = λ hub within at number request there. k.kept hub within at number request (h.kept hub within at number request (carries hub within at number request there));
         no_more = λ hub within at number request there. carries_back hub within at number request (h.no_more hub within at number request (k.no_more hub within at number request there));
@@ -326,13 +339,14 @@ one_there P X None e h f = cc
 one_there P X (Some a) e h f = f a h
 
 -- the one at this place is answered, and gone
-pub taken_away : (opened_of : ℕ → CoreView) (old new : DesksView) (place : ℕ) → new.hubs ≡ old.hubs → (questions_of new) ≡ (questions_of old) → (o : Option Answer) → IfSome o (λ a. IsAnswerOf opened_of ((mixed_of old) place) a.asker (request_value (arc_value a.request)) (answer_value a.outcome)) → IfSome o (λ a. (mixed_of new) place ≡ None)
+pub taken_away : (opened_of : ℕ → CoreView) (old new : DesksView) (place : ℕ) → new.hubs ≡ old.hubs → new.most ≡ old.most → (questions_of new) ≡ (questions_of old) → (o : Option Answer) → IfSome o (λ a. IsAnswerOf opened_of ((mixed_of old) place) a.asker (request_value (arc_value a.request)) (answer_value a.outcome)) → IfSome o (λ a. (mixed_of new) place ≡ None)
     → ((other : ℕ) → other ≢ place → (mixed_of new) other ≡ (mixed_of old) other) → IfSome o (λ a. (number : ℕ) × (a.asker ≡ Session number) × IsTakenAway old new place number (request_value (arc_value a.request)))
-taken_away opened_of old new place hubs questions None is gone others = tt
-taken_away opened_of old new place hubs questions (Some a) is gone others =
+taken_away opened_of old new place hubs most questions None is gone others = tt
+taken_away opened_of old new place hubs most questions (Some a) is gone others =
     let its : IsTakenAway old new place is.its.number (request_value (arc_value a.request)) =
     record {
       hubs = hubs;
+      most = most;
       q = is.its;
       there = is.there;
       number_is = refl;

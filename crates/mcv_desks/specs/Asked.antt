@@ -54,10 +54,11 @@ tallies_of d = tally_of d.desk0.seat ∷ tally_of d.desk1.seat ∷ tally_of d.de
 abbrev pub receipts_of : {F G : Type 0} → HubDesks F G → List Receipt
 receipts_of d = d.desk0.kept.receipts.items ++ d.desk1.kept.receipts.items ++ d.desk2.kept.receipts.items ++ d.desk3.kept.receipts.items ++ d.desk4.kept.receipts.items ++ d.desk5.kept.receipts.items ++ d.desk6.kept.receipts.items ++ d.desk7.kept.receipts.items
 
--- what clauses see of desks over so many hubs, and of requests with keys of several
-abbrev pub desks_view : {F G : Type 0} → (hubs : ℕ) → Slab MixedView → HubDesks F G → DesksView
-desks_view hubs mixed d = record {
+-- what clauses see of desks over so many hubs, of so many bytes for an answer, and of requests with keys of several hubs
+abbrev pub desks_view : {F G : Type 0} → (hubs most : ℕ) → Slab MixedView → HubDesks F G → DesksView
+desks_view hubs most mixed d = record {
   hubs = hubs;
+  most = most;
   mixed = mixed;
   questions = (d.desk0.questions, d.desk1.questions, d.desk2.questions, d.desk3.questions, d.desk4.questions, d.desk5.questions, d.desk6.questions, d.desk7.questions);
   asked = (d.desk0.is_asked, d.desk1.is_asked, d.desk2.is_asked, d.desk3.is_asked, d.desk4.is_asked, d.desk5.is_asked, d.desk6.is_asked, d.desk7.is_asked);

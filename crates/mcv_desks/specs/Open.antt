@@ -34,6 +34,8 @@ mixed_at mixed place = option_map (λ m. m.request) (get mixed place)
 pub record DesksView : Type 0 where
   -- how many hubs have keys
   pub hubs : ℕ
+  -- how many bytes the values of an answer may have
+  pub most : ℕ
   -- the requests whose keys have several hubs
   pub mixed : Slab MixedView
   -- at the desk of each hub: what is open there, whether something was asked since its last turn, how many requests wait to begin, and what
@@ -78,12 +80,14 @@ NoneCloses old new = (number : ℕ) (request : RequestValue) → IsOpen old numb
 -- the same requests are open
 pub record AreSameRequests (old new : DesksView) : Type 0 where
   pub hubs : new.hubs ≡ old.hubs
+  pub most : new.most ≡ old.most
   pub none_opens : NoneOpens old new
   pub none_closes : NoneCloses old new
 
 -- this one is open too
 pub record IsOneMore (old new : DesksView) (number : ℕ) (request : RequestValue) : Type 0 where
   pub hubs : new.hubs ≡ old.hubs
+  pub most : new.most ≡ old.most
   pub is_open : IsOpen new number request
   pub others : (other : ℕ) (its : RequestValue) → IsOpen new other its → IsOpen old other its ⊎ ((other ≡ number) × (its ≡ request))
   pub none_closes : NoneCloses old new
@@ -91,6 +95,7 @@ pub record IsOneMore (old new : DesksView) (number : ℕ) (request : RequestValu
 -- this one was open; those of other numbers still are
 pub record IsOneLess (old new : DesksView) (number : ℕ) (request : RequestValue) : Type 0 where
   pub hubs : new.hubs ≡ old.hubs
+  pub most : new.most ≡ old.most
   pub was : IsOpen old number request
   pub none_opens : NoneOpens old new
   pub others : (other : ℕ) (its : RequestValue) → other ≢ number → IsOpen old other its → IsOpen new other its
@@ -107,6 +112,7 @@ CarriesAll old new = (hub : ℕ) → hub < 8 → Carries (old hub) (new hub)
 -- each session's request is at its place, and no other one is
 pub record AreInPlace (old new : DesksView) : Type 0 where
   pub hubs : new.hubs ≡ old.hubs
+  pub most : new.most ≡ old.most
   pub mixed : (place : ℕ) → (mixed_of new) place ≡ (mixed_of old) place
   pub kept : CarriesAll (questions_of old) (questions_of new)
   pub no_more : CarriesAll (questions_of new) (questions_of old)
@@ -114,6 +120,7 @@ pub record AreInPlace (old new : DesksView) : Type 0 where
 -- the one with keys of several hubs at this place is gone, and each other one is at its place
 pub record IsTakenAway (old new : DesksView) (place number : ℕ) (request : RequestValue) : Type 0 where
   pub hubs : new.hubs ≡ old.hubs
+  pub most : new.most ≡ old.most
   pub q : MixedRequest
   pub there : (mixed_of old) place ≡ Some q
   pub number_is : q.number ≡ number

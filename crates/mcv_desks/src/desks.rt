@@ -1,6 +1,6 @@
 //! The desks of a loop at all hubs.
 
-ghost use Rattle.std.specs.Prelude.{◌≡◌, ◌≢◌, ◌↔◌, ◌<◌, ℕ, true, None, IfNone, IfOk, IfSome, OnErr, OnOk};
+ghost use Rattle.std.specs.Prelude.{◌≡◌, ◌≢◌, ◌↔◌, ◌<◌, ◌≤◌, ◌⊎◌, ℕ, true, Err, None, Ok, IfErr, IfNone, IfOk, IfSome, OnErr, OnOk, sum_by};
 ghost use Rattle.std.specs.Arc.{arc_value};
 ghost use Rattle.mcv_desks.specs.Asked.{AreSameMixed, AreSomeLeft, IfNotWhole, IfWhole, IsAnswerOf, IsNextKey, joined_of, mixed_at};
 ghost use Rattle.mcv_desks.specs.Desks.{AsksHubs};
@@ -9,6 +9,7 @@ ghost use Rattle.mcv_desks.specs.Open.{AreInPlace, AreSameRequests, IsOneLess, I
 ghost use Rattle.mcv_session.specs.Desk.{answer_value};
 ghost use Rattle.mcv_text.specs.Request.{RequestValue, request_value};
 ghost use Rattle.mcv_turn.specs.Shown.{is_known_marked};
+ghost use Rattle.mcv_turn.specs.Values.{value_bytes};
 
 use crate::hub_desks::HubDesks;
 use crate::mixed::Mixed;
@@ -17,7 +18,7 @@ use mcv_base::{Part, Request, ServerId};
 use mcv_hub::{Pass, Receipt};
 use mcv_hubs::{HubChoice, HubNames, Hubs, MOST_HUBS, Names, Seats};
 use mcv_session::DeskFault;
-use mcv_turn::{Answer, Asker, Came, Gives};
+use mcv_turn::{Answer, Asker, Came, Gives, are_within};
 use slab::Slab;
 use std::alloc::{AllocError, Global};
 use std::marker::Model;
@@ -35,6 +36,8 @@ pub struct LoopDesks<'a, F: HubNames, G: Names> {
     mixed: Slab<Mixed<F>>,
     /// The serial number of the next one of these.
     next: u64,
+    /// How many bytes the values of an answer may have.
+    most: usize,
     desks: HubDesks<'a, F, G>,
 }
 
@@ -44,7 +47,7 @@ impl<'a, F: HubNames, G: Names> Model for LoopDesks<'a, F, G> {
 
     ghost Value = { DesksView };
 
-    ghost view = { λ d. desks_view d.choice.now d.mixed d.desks };
+    ghost view = { λ d. desks_view d.choice.now d.most d.mixed d.desks };
 
     ghost invariant = { λ d. AreDesks d.choice.now d.next (mixed_at d.mixed) (questions_at d.desks) };
 }
@@ -78,6 +81,24 @@ fn joined_of(whole: Option<Answer>) -> Joined
     match whole {
         Some(answer) => Joined::Whole(answer),
         None => Joined::Reply,
+    }
+}
+
+/// The same, or, where the values of the replies have more than so many bytes, that memory has run out.
+fn limited(outcome: Result<Vec<Part>, DeskFault>, most: usize) -> Result<Vec<Part>, DeskFault>
+    ensures within { IfOk result (λ parts. sum_by value_bytes parts.items ≤ most) }
+    ensures ok { IfOk result (λ parts. outcome ≡ Ok parts) }
+    ensures err { IfErr result (λ fault. (outcome ≡ Err fault) ⊎ ((fault ≡ DeskFault.Memory) × IfOk outcome (λ parts. most < sum_by value_bytes parts.items))) }
+{
+    match outcome {
+        Ok(parts) => {
+            if are_within(parts.as_slice(), most) {
+                Ok(parts)
+            } else {
+                Err(DeskFault::Memory)
+            }
+        }
+        Err(fault) => Err(fault),
     }
 }
 
@@ -156,22 +177,25 @@ fn take_done<F: HubNames>(mixed: &mut Slab<Mixed<F>>, place: usize) -> Option<An
 }
 
 impl<'a, F: HubNames, G: Names> LoopDesks<'a, F, G> {
-    /// Desks that were asked nothing. An error is that memory ran out.
+    /// Desks that were asked nothing, whose answers may have values of so many bytes together. An error is that memory ran out.
     pub fn new(
         alloc: Global,
         hubs: &'a Hubs<F, G>,
         seats: Seats<F, G>,
+        most: usize,
     ) -> Result<LoopDesks<'a, F, G>, AllocError>
         ensures hubs { IfOk result (λ d. d.hubs ≡ hubs.now.choice) }
+        ensures most { IfOk result (λ d. d.most ≡ most) }
         ensures none { IfOk result (λ d. (number : ℕ) (request : RequestValue) → IsOpen d number request → ⊥) }
     {
-        let desks = HubDesks::new(alloc, hubs, seats)?;
+        let desks = HubDesks::new(alloc, hubs, seats, most)?;
         let mixed = Slab::new(alloc);
         Ok(LoopDesks {
             alloc,
             choice: &hubs.choice,
             mixed,
             next: 0,
+            most,
             desks,
         })
     }
@@ -197,7 +221,7 @@ impl<'a, F: HubNames, G: Names> LoopDesks<'a, F, G> {
             return Err(AllocError);
         };
         let hubs = self.choice.hubs();
-        let mixed = Mixed::new(self.alloc, self.next, number, hubs, request)?;
+        let mixed = Mixed::new(self.alloc, self.next, number, hubs, request, self.most)?;
         let place = self.mixed.insert(mixed)?;
         self.next = next;
         self.ask_keys(place);
@@ -241,15 +265,26 @@ impl<'a, F: HubNames, G: Names> LoopDesks<'a, F, G> {
     }
 
     /// The next answer to a request of a session, from replies of the hubs of its keys, in the order of the keys; None where none is
-    /// there.
+    /// there. Where their values have too many bytes, it is that memory has run out.
     pub fn answer(&mut self) -> Option<Answer>
         ensures answered { IfSome result (λ a. (number : ℕ) × (a.asker ≡ Asker.Session number) × IsOneLess self.old self.new number (request_value (arc_value a.request))) }
         ensures none { IfNone result (AreSameRequests self.old self.new) }
         ensures answer { IfSome result (λ a. AsksHubs F.opened_of self.old.hubs (request_value (arc_value a.request)) (answer_value a.outcome)) }
+        ensures within { IfSome result (λ a. IfOk a.outcome (λ parts. sum_by value_bytes parts.items ≤ self.old.most)) }
     {
         for hub in 0..MOST_HUBS {
             if let Some(answer) = self.answer_of(hub) {
-                return Some(answer);
+                let Answer {
+                    asker,
+                    request,
+                    outcome,
+                } = answer;
+                let outcome = limited(outcome, self.most);
+                return Some(Answer {
+                    asker,
+                    request,
+                    outcome,
+                });
             }
         }
         None

@@ -70,11 +70,12 @@ fn joined(all: Vec<Receipt>, others: &[Receipt]) -> Result<Vec<Receipt>, AllocEr
 }
 
 impl<'a, F: HubNames, G: Names> HubDesks<'a, F, G> {
-    /// Desks that were asked nothing. An error is that memory ran out.
+    /// Desks that were asked nothing, each for answers with values of so many bytes. An error is that memory ran out.
     pub(crate) fn new(
         alloc: Global,
         hubs: &'a Hubs<F, G>,
         seats: Seats<F, G>,
+        most: usize,
     ) -> Result<HubDesks<'a, F, G>, AllocError>
         ensures { IfOk result (λ d. (hub number : ℕ) → open_at (questions_at d hub) number ≡ None) }
     {
@@ -88,14 +89,14 @@ impl<'a, F: HubNames, G: Names> HubDesks<'a, F, G> {
             seat6,
             seat7,
         } = seats;
-        let desk0 = LoopDesk::new(alloc, &hubs.hub0, seat0)?;
-        let desk1 = LoopDesk::new(alloc, &hubs.hub1, seat1)?;
-        let desk2 = LoopDesk::new(alloc, &hubs.hub2, seat2)?;
-        let desk3 = LoopDesk::new(alloc, &hubs.hub3, seat3)?;
-        let desk4 = LoopDesk::new(alloc, &hubs.hub4, seat4)?;
-        let desk5 = LoopDesk::new(alloc, &hubs.hub5, seat5)?;
-        let desk6 = LoopDesk::new(alloc, &hubs.hub6, seat6)?;
-        let desk7 = LoopDesk::new(alloc, &hubs.hub7, seat7)?;
+        let desk0 = LoopDesk::new(alloc, &hubs.hub0, seat0, most)?;
+        let desk1 = LoopDesk::new(alloc, &hubs.hub1, seat1, most)?;
+        let desk2 = LoopDesk::new(alloc, &hubs.hub2, seat2, most)?;
+        let desk3 = LoopDesk::new(alloc, &hubs.hub3, seat3, most)?;
+        let desk4 = LoopDesk::new(alloc, &hubs.hub4, seat4, most)?;
+        let desk5 = LoopDesk::new(alloc, &hubs.hub5, seat5, most)?;
+        let desk6 = LoopDesk::new(alloc, &hubs.hub6, seat6, most)?;
+        let desk7 = LoopDesk::new(alloc, &hubs.hub7, seat7, most)?;
         Ok(HubDesks {
             desk0,
             desk1,

@@ -12,7 +12,7 @@ use crate::one_key::requests_of_keys;
 use mcv_base::{Part, Request, key_words_have_one_reading};
 use mcv_hubs::HubNames;
 use mcv_session::DeskFault;
-use mcv_turn::{Answer, Asker, key_count};
+use mcv_turn::{Answer, Asker, key_count, value_bytes};
 use std::alloc::{AllocError, Global};
 use std::marker::{Model, PhantomData};
 use std::sync::Arc;
@@ -41,6 +41,9 @@ pub(crate) struct Mixed<F: HubNames> {
     answered: usize,
     /// Why a key has no reply.
     fault: Option<DeskFault>,
+    /// The bytes of the values of the replies; no further key is asked once they are more than `most`.
+    held: usize,
+    most: usize,
     names: PhantomData<F>,
 }
 
@@ -133,13 +136,15 @@ fn outcome_of(
 }
 
 impl<F: HubNames> Mixed<F> {
-    /// A request among so many hubs, of which no key was asked yet.
+    /// A request among so many hubs, of which no key was asked yet. No further key is asked once the values of its replies have more than
+    /// `most` bytes together.
     pub(crate) fn new(
         alloc: Global,
         serial: u64,
         number: u64,
         hubs: usize,
         request: Arc<Request>,
+        most: usize,
     ) -> Result<Mixed<F>, AllocError>
         ensures { IfOk result (λ m. m ≡ record { request = record { serial = serial; number = number; hubs = hubs; asked = arc_value request }; answered = 0; fault = None }) }
     {
@@ -159,6 +164,8 @@ impl<F: HubNames> Mixed<F> {
             asked: 0,
             answered: 0,
             fault: None,
+            held: 0,
+            most,
             names: PhantomData,
         })
     }
@@ -177,12 +184,17 @@ impl<F: HubNames> Mixed<F> {
         self.serial
     }
 
-    /// What is asked for the next key; None while 1,024 keys are unanswered, or where one has no reply.
+    /// What is asked for the next key; None while 1,024 keys are unanswered, or where one has no reply, as where there are values of too
+    /// many bytes.
     pub(crate) fn next_key(&mut self) -> Option<KeyAlone>
         ensures same { self.new.request ≡ self.old.request }
         ensures key { IfSome result (λ k. IsKeyAlone self.old.request k.key (request_value (arc_value k.request))) }
     {
         if self.fault.is_some() || self.asked.saturating_sub(self.answered) >= MOST_OPEN {
+            return None;
+        }
+        if self.held > self.most {
+            self.fault = Some(DeskFault::Memory);
             return None;
         }
         let key = self.asked;
@@ -220,10 +232,12 @@ impl<F: HubNames> Mixed<F> {
         let Some(part) = parts.pop() else {
             return;
         };
+        let held = self.held.saturating_add(value_bytes(&part));
         if !fill(&mut self.replies, key, part) {
             return;
         }
         self.answered = self.answered.saturating_add(1);
+        self.held = held;
     }
 
     /// A key that was asked is answered so.

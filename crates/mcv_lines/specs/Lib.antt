@@ -3,7 +3,6 @@ pub mod Channel
 pub mod Life
 pub mod Repeat
 pub mod Lost
-pub mod Elapsed
 pub mod Probe
 pub mod Legs
 pub mod Line

@@ -1,5 +1,5 @@
 -- What a line to a server does for the legs of one hub, whatever the state of its connection (own).
-use Rattle.std.specs.Prelude.{◌≡◌, ℕ, Bool, true, false, List, [], Option, Some, None, Result, Ok, Err, IfOk, codes}
+use Rattle.std.specs.Prelude.{◌≡◌, ℕ, Bool, true, false, List, [], Option, Some, None, Result, Ok, Err, IfOk, codes, cond}
 use Rattle.std.specs.declared.alloc.AllocError.{AllocError}
 use Rattle.std.specs.declared.time.Duration.{Duration}
 use Rattle.std.specs.declared.time.Instant.{Instant}
@@ -10,7 +10,7 @@ use Rattle.mcv_turn.specs.declared.arrival.Arrival.{Arrival}
 use Rattle.mcv_turn.specs.declared.flight.Flight.{Flight}
 use Rattle.mcv_connection.specs.declared.connection.Connection.{Ghosts}
 use Rattle.mcv_lines.specs.Channel.{WritesOf}
-use Rattle.mcv_lines.specs.Elapsed.{HasPassed}
+use Rattle.mcv_connection.specs.Elapsed.{has_passed}
 use Rattle.mcv_lines.specs.Legs.{Hears, IsUnused, LosesLegs, SendsFlight, StillFlying, since_of}
 use Rattle.mcv_lines.specs.Probe.{ProbeValue, ReadsProbe, WritesProbe}
 use Rattle.mcv_lines.specs.declared.loss.Loss.{Loss}
@@ -125,4 +125,4 @@ module _ {C : Type 0} {g : Ghosts C} where
 -- its loss is to be told still; or its time has run out; or neither
 abbrev pub IsOverdue : Option Loss → Option Instant → Option Instant → Option Duration → Option Loss → Type 0
 IsOverdue (Some loss) since now limit result = result ≡ Some loss
-IsOverdue None since now limit result = (HasPassed since now limit → result ≡ Some Late) × ((HasPassed since now limit → ⊥) → result ≡ None)
+IsOverdue None since now limit result = result ≡ cond (has_passed since now limit) (Some Late) None

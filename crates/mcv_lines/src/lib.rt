@@ -7,7 +7,6 @@
 #![tactic(auto)]
 
 mod channel;
-mod elapsed;
 mod line;
 mod loss;
 mod open;
@@ -15,7 +14,6 @@ mod probe;
 mod sent;
 mod took;
 
-pub use crate::elapsed::{between, has_passed};
 pub use crate::line::Line;
 pub use crate::loss::{Loss, may_ask_again};
 pub use crate::took::{Heard, Wrote};

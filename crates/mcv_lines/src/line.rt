@@ -3,13 +3,12 @@
 ghost use Rattle.std.specs.Prelude.{◌≡◌, ◌++◌, [], List, All, IfErr, None, OnErr, OnOk, Some, false, length, not, true};
 ghost use Rattle.mcv_lines.specs.Line.{AnswersProbe, AnswersState, HearsLine, IsOverdue, LosesLine, OpensLine, ProbesLine, SendsLine, WritesLine, flights_of, is_closed, is_probing, legs_can_be_sent, since_in};
 
-use crate::elapsed::has_passed;
 use crate::loss::Loss;
 use crate::open::OpenLine;
 use crate::probe::Probe;
 use crate::took::{Heard, Wrote};
 use mcv_base::ServerId;
-use mcv_connection::Connection;
+use mcv_connection::{Connection, has_passed};
 use mcv_hub::Pass;
 use mcv_turn::{Arrival, Flight};
 use std::alloc::{AllocError, Global};

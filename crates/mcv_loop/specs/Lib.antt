@@ -1,8 +1,2 @@
-pub mod Moments
-pub mod Ending
-pub mod Patience
-pub mod SpoolState
-pub mod Leftover
-pub mod Places
-pub mod Posts
+pub mod Ends
 pub mod Oldest

@@ -3,7 +3,7 @@ use Rattle.std.specs.Prelude.{List, [], ◌∷◌, Option}
 use Rattle.std.specs.declared.time.Instant.{Instant}
 use Rattle.mcv_connection.specs.declared.connection.Connection.{Ghosts}
 use Rattle.mcv_lines.specs.Line.{since_in}
-use Rattle.mcv_loop.specs.Moments.{earlier}
+use Rattle.mcv_schedule.specs.Moments.{earlier}
 use Rattle.mcv_loop.specs.declared.lines.Entry.{Entry}
 
 module _ {C : Type 0} {g : Ghosts C} where

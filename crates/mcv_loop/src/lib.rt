@@ -6,18 +6,11 @@
 //! leg is queued. A test runs it over memory.
 #![tactic(auto)]
 
-mod ending;
-mod leftover;
 mod lines;
 mod main_loop;
-mod moments;
-mod patience;
-mod post;
 mod servers;
 mod sources;
-mod spool_state;
 mod turns;
-mod vain_waits;
 
 pub use crate::main_loop::{Limits, Loop, LoopEnd};
 pub use crate::sources::{Ready, Source, SourceFault, Sources};

@@ -1,23 +1,15 @@
 //! The connections of a loop to all servers, for each hub.
 
-ghost use Rattle.std.specs.Prelude.{◌≡◌, ◌<◌, ◌^◌, ℕ, IfSome, Some};
+ghost use Rattle.std.specs.Prelude.{◌≡◌};
 ghost use Rattle.mcv_loop.specs.Oldest.{oldest_since};
-ghost use Rattle.mcv_loop.specs.Places.{IsPlace};
 
-use crate::moments::earlier;
 use mcv_base::ServerId;
 use mcv_connection::Connection;
 use mcv_lines::Line;
+use mcv_schedule::{Way, earlier};
 use std::alloc::{AllocError, Global};
 use std::collections::VecDeque;
 use std::time::Instant;
-
-/// Which connection: that to a server, for the legs of a hub.
-#[derive(Clone, Copy)]
-pub(crate) struct Way {
-    pub(crate) hub: usize,
-    pub(crate) server: ServerId,
-}
 
 /// A connection, and what is noted of it.
 #[derive(Drop)]
@@ -35,19 +27,6 @@ pub(crate) struct Lines<C: Connection> {
     all: Vec<Entry<C>>,
     due: VecDeque<Way>,
     unread: VecDeque<Way>,
-}
-
-/// Where a connection is among all, if there are so many servers. None where there is no such server, or no such place.
-fn place_of(servers: u32, way: Way) -> Option<usize>
-    ensures some { IfSome result (λ place. IsPlace servers way place) }
-    ensures none { (place : ℕ) → IsPlace servers way place → place < 2 ^ 64 → result ≡ Some place }
-{
-    if way.server.0 >= servers {
-        return None;
-    }
-    way.hub
-        .checked_mul(servers as usize)?
-        .checked_add(way.server.0 as usize)
 }
 
 /// The earliest moment since when one of the servers owes an answer; none that is later than this one.
@@ -102,7 +81,7 @@ impl<C: Connection> Lines<C> {
 
     /// A connection.
     pub(crate) fn line(&mut self, way: Way) -> Option<&mut Line<C>> {
-        match self.all.get_mut(place_of(self.servers, way)?) {
+        match self.all.get_mut(way.place(self.servers)?) {
             Some(entry) => Some(&mut entry.line),
             None => None,
         }
@@ -126,7 +105,7 @@ impl<C: Connection> Lines<C> {
 
     /// A connection is to be read, though nothing more is said of it.
     pub(crate) fn note_unread(&mut self, way: Way) {
-        let Some(place) = place_of(self.servers, way) else {
+        let Some(place) = way.place(self.servers) else {
             return;
         };
         let Some(entry) = self.all.get_mut(place) else {
@@ -145,7 +124,7 @@ impl<C: Connection> Lines<C> {
     /// The next one that is to be read. It is no more then.
     pub(crate) fn next_unread(&mut self) -> Option<Way> {
         let way = self.unread.pop_front()?;
-        if let Some(entry) = self.all.get_mut(place_of(self.servers, way)?) {
+        if let Some(entry) = self.all.get_mut(way.place(self.servers)?) {
             entry.is_unread = false;
         }
         Some(way)

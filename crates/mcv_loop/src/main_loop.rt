@@ -2,19 +2,17 @@
 
 ghost use Rattle.slab.specs.Slab.{slab_len};
 ghost use Rattle.std.specs.Prelude.{◌≡◌, [], IfOk, IfSome, true};
-ghost use Rattle.mcv_loop.specs.Ending.{HasEnded, is_without_clients};
-ghost use Rattle.mcv_loop.specs.declared.ending.Ending.TheVariants.{Serving};
+ghost use Rattle.mcv_loop.specs.Ends.{HasEnded};
+ghost use Rattle.mcv_schedule.specs.Ending.{is_without_clients};
+ghost use Rattle.mcv_schedule.specs.declared.ending.Ending.TheVariants.{Serving};
 
-use crate::ending::Ending;
-use crate::leftover::{Leftover, with_hub};
-use crate::lines::{Lines, Way};
-use crate::moments::has_passed;
-use crate::patience::{TICK, patience, pause};
-use crate::post::Post;
+use crate::lines::Lines;
 use crate::sources::{Ready, Source, SourceFault, Sources};
 use mcv_clients::Clients;
+use mcv_connection::has_passed;
 use mcv_hub::{Pass, Receipt};
 use mcv_hubs::{HubNames, Hubs, Names, Seats};
+use mcv_schedule::{Ending, Leftover, Post, TICK, Way, patience, pause, with_hub};
 use mcv_watch::Watch;
 use std::alloc::{AllocError, Global};
 use std::mem;
@@ -36,13 +34,15 @@ pub(crate) const TURNS: u64 = u64::MAX;
 /// How long clients that take nothing are kept behind the moment of a drain, in milliseconds, so that answers get out.
 const GRACE: u64 = 1_000;
 
-/// The time that servers and clients have; None where they may take any.
+/// What a loop grants: the time that servers and clients have, None where they may take any, and the bytes of an answer.
 #[derive(Clone, Copy)]
 pub struct Limits {
     /// From a leg's sending to its reply.
     pub server: Option<Duration>,
     /// For a client to send a byte, or to take one.
     pub client: Option<Duration>,
+    /// The most bytes that the values of an answer may have together.
+    pub answer: usize,
 }
 
 /// How a loop came to its end.
@@ -70,6 +70,7 @@ pub struct Loop<'a, F: HubNames, G: Names, S: Sources, W: Watch> {
     pub(crate) ending: Ending,
     /// No more clients come, and none is left.
     pub(crate) is_leaving: bool,
+    /// What is ready; its room is kept from one round to the next.
     ready: Vec<Ready<S::Client>>,
     /// For one read of a server.
     pub(crate) room: Vec<u8>,
@@ -118,13 +119,14 @@ impl<'a, F: HubNames, G: Names, S: Sources, W: Watch> Loop<'a, F, G, S, W> {
     ) -> Result<Loop<'a, F, G, S, W>, AllocError>
         ensures none { IfOk result (λ l. l.clients.clients.slots ≡ []) }
         ensures hubs { IfOk result (λ l. l.clients.desks.hubs ≡ hubs.now.choice) }
+        ensures answer { IfOk result (λ l. l.clients.desks.most ≡ limits.answer) }
         ensures serves { IfOk result (λ l. l.ending ≡ Serving) }
     {
         let servers = u32::try_from(hubs.hub0.routes().servers().len()).unwrap_or(u32::MAX);
         let lines = Lines::new(alloc, hubs.choice.hubs(), servers)?;
         let posts = posts_of(alloc, hubs.choice.hubs())?;
         let room = room_of(alloc)?;
-        let clients = Clients::new(alloc, hubs, seats)?;
+        let clients = Clients::new(alloc, hubs, seats, limits.answer)?;
         Ok(Loop {
             alloc,
             hubs,
@@ -211,10 +213,11 @@ impl<'a, F: HubNames, G: Names, S: Sources, W: Watch> Loop<'a, F, G, S, W> {
 
     /// Takes what is ready.
     fn take_ready(&mut self) {
-        let ready = mem::replace(&mut self.ready, Vec::new(self.alloc));
-        for one in ready {
+        let mut ready = mem::replace(&mut self.ready, Vec::new(self.alloc));
+        for one in ready.drain(..) {
             self.take(one);
         }
+        self.ready = ready;
     }
 
     /// Takes one thing that is ready.
@@ -308,6 +311,8 @@ impl<'a, F: HubNames, G: Names, S: Sources, W: Watch> Loop<'a, F, G, S, W> {
         for _turn in 0..MOST_TURNS {
             self.clients
                 .serve_all(&self.pass, &mut self.watch, self.now);
+            // What is sent now is late by a clock that is read now: the time that serving took isn't a server's.
+            self.now = self.sources.instant();
             if !self.turn_all(rt) {
                 return;
             }

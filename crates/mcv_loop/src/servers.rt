@@ -1,15 +1,13 @@
 //! What a loop does with its connections to servers.
 
 ghost use Rattle.std.specs.Prelude.{◌≡◌, Err, true};
-ghost use Rattle.mcv_loop.specs.Ending.{is_past};
+ghost use Rattle.mcv_schedule.specs.Ending.{is_past};
 
-use crate::lines::Way;
 use crate::main_loop::{Loop, MOST_PIECES, PIECE, TURNS};
-use crate::moments::{earlier, has_come};
-use crate::patience::late_at;
 use crate::sources::Sources;
 use mcv_hubs::{HubNames, Names};
 use mcv_lines::{Heard, Loss, Wrote};
+use mcv_schedule::{Way, earlier, has_come, late_at};
 use mcv_turn::{Arrival, Flight, Marked};
 use mcv_watch::Watch;
 

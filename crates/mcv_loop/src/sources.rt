@@ -3,7 +3,7 @@
 use mcv_base::{Moment, ServerId};
 use mcv_connection::Connection;
 use mcv_hub::{Pass, Past};
-use mcv_turn::{HeldLeg, StoredLeg};
+use mcv_turn::{HeldLeg, Performed, StoredLeg};
 use std::time::{Duration, Instant};
 use thiserror::Error;
 
@@ -78,8 +78,8 @@ pub trait Sources: Drop {
     /// The record of a held leg is to be written, for the hub of this number. Whether it will be: the answer comes as `Stored`.
     fn store(&mut self, pass: &Pass, hub: usize, held: HeldLeg) -> bool;
 
-    /// The record of this number is done: its leg was performed.
-    fn finish(&mut self, pass: &Pass, number: u64);
+    /// This record is done.
+    fn finish(&mut self, pass: &Pass, performed: Performed);
 
     /// What is left of an old chapter is to be dropped, which takes a while where it is much.
     fn discard(&mut self, pass: &Pass, past: Past);

@@ -151,7 +151,7 @@ impl<'a, F: HubNames, G: Names, S: Sources, W: Watch> Loop<'a, F, G, S, W> {
         }
         self.send_all(hub);
         self.probe_newly_marked(hub, marks.as_slice());
-        self.finish_all(performed.as_slice());
+        self.finish_all(performed);
         if let Some(past) = past {
             self.sources.discard(&self.pass, past);
         }
@@ -178,10 +178,10 @@ impl<'a, F: HubNames, G: Names, S: Sources, W: Watch> Loop<'a, F, G, S, W> {
     }
 
     /// Records are done.
-    fn finish_all(&mut self, performed: &[Performed]) {
+    fn finish_all(&mut self, performed: Vec<Performed>) {
         for one in performed {
-            self.watch.note_replayed(one.server);
-            self.sources.finish(&self.pass, one.number);
+            self.watch.note_replayed(one.server());
+            self.sources.finish(&self.pass, one);
         }
     }
 

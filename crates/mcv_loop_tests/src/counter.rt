@@ -36,6 +36,10 @@ fn count(counter: &mut u64) {
 }
 
 impl Watch for Counter {
+    ghost use Rattle.std.specs.Prelude.{true};
+
+    ghost looks = { λ counter. true };
+
     fn note_asked(&mut self, _request: &Request) {
         count(&mut self.asked);
     }

@@ -9,7 +9,7 @@ use mcv_connection::Connection;
 use mcv_hub::{Pass, Past};
 use mcv_loop::{Ready, Source, SourceFault, Sources};
 use mcv_spool::{Spool, SpoolFault};
-use mcv_turn::{HeldLeg, StoredLeg};
+use mcv_turn::{HeldLeg, Performed, StoredLeg};
 use std::alloc::{AllocError, Global};
 use std::cell::RefCell;
 use std::io;
@@ -517,8 +517,8 @@ impl Sources for Memory {
         self.stored.push((hub, StoredLeg { leg, outcome })).is_ok()
     }
 
-    fn finish(&mut self, _pass: &Pass, number: u64) {
-        if self.spool.done(number).is_ok() {
+    fn finish(&mut self, _pass: &Pass, performed: Performed) {
+        if self.spool.done(performed.number()).is_ok() {
             self.finished = self.finished.saturating_add(1);
         }
     }

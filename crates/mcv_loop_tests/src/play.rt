@@ -151,6 +151,7 @@ fn play_over<F: HubNames, G: Names, R: AllocGlobal + Wait + Clock + Abort>(
     let limits = Limits {
         server: Some(Duration::from_millis(200)),
         client: Some(Duration::from_secs(10)),
+        answer: usize::MAX,
     };
     let counter = Counter::default();
     let pass = passes.pass();

@@ -267,6 +267,7 @@ where
         let limits = Limits {
             server: server_limit(self.order.settings.server_timeout),
             client: client_limit(self.order.settings.client_timeout),
+            answer: self.order.settings.answer_bytes.bytes as usize,
         };
         match self.sources() {
             Ok(sources) => Ok(Tools {

@@ -16,7 +16,7 @@ use mcv_words::{RunOptions, Settings};
 use std::alloc::Global;
 use std::io;
 use std::io::{Eprint, Write};
-use std::net::{Net, TcpListener, TcpStream};
+use std::net::{Net, SocketAddr, TcpListener, TcpStream, ToSocketAddrs};
 use std::rt::Clock;
 use std::sync::{Arc, Wait};
 use std::thread::Threads;
@@ -102,6 +102,14 @@ where
     Ok(())
 }
 
+/// A listener at this address, whose `accept` waits. As many connections as the system allows may wait to be accepted, so that a crowd
+/// that comes at once isn't kept out.
+fn bind<R: Net>(rt: &R, address: SocketAddr) -> io::Result<TcpListener> {
+    let listener = TcpListener::from(mio::net::TcpListener::bind(rt, address)?);
+    listener.set_nonblocking(false)?;
+    Ok(listener)
+}
+
 /// Listens at an address, `127.0.0.1:5000`, `[::1]:5000` or `localhost:5000`. An address that doesn't read, or that can't be
 /// listened at, is `Device`.
 pub fn listen<R: Net<Stream = TcpStream, Listener = TcpListener>>(
@@ -110,10 +118,15 @@ pub fn listen<R: Net<Stream = TcpStream, Listener = TcpListener>>(
 ) -> Result<TcpListener, NetFault>
     ensures { IfErr result (λ fault. fault ≡ NetFault.Device) }
 {
-    match TcpListener::bind(rt, address) {
-        Ok(listener) => Ok(listener),
-        Err(_) => Err(NetFault::Device),
+    let Ok(addresses) = address.to_socket_addrs(rt) else {
+        return Err(NetFault::Device);
+    };
+    for address in addresses {
+        if let Ok(listener) = bind(rt, address) {
+            return Ok(listener);
+        }
     }
+    Err(NetFault::Device)
 }
 
 /// Opens the disks of spools by the names of their files.

@@ -47,6 +47,10 @@ impl<N: Notices> SystemWatch<N> {
 }
 
 impl<N: Notices> Watch for SystemWatch<N> {
+    ghost use Rattle.std.specs.Prelude.{is_some};
+
+    ghost looks = { λ watch. is_some watch.counters.tally };
+
     fn note_asked(&mut self, request: &Request) {
         let Some(tally) = &self.counters.tally else {
             return;

@@ -3,7 +3,7 @@
 use crate::routes::accepted_of;
 use mcv_check::Accepted;
 use mcv_net::{Listeners, SpoolFiles, listen, run_proxy};
-use mcv_words::{Hubs, InRange, ServerTimeout, Sessions, Settings, Window};
+use mcv_words::{AnswerBytes, Hubs, InRange, ServerTimeout, Sessions, Settings, Window};
 use std::alloc::Global;
 use std::io::{Eprint, Read, Write};
 use std::net::{Net, TcpListener, TcpStream};
@@ -110,6 +110,7 @@ fn settings_of(rt: &impl Abort, visit: &Visit) -> Settings {
         server_timeout: ServerTimeout::new(30_000),
         client_timeout: None,
         max_clients: None,
+        answer_bytes: AnswerBytes::new(67_108_864).expect(rt, "some bytes"),
     }
 }
 

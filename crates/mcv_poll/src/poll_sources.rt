@@ -11,7 +11,7 @@ use crate::tokens::{LISTENER, Tokens};
 use mcv_base::{Moment, ServerId};
 use mcv_hub::{Pass, Past};
 use mcv_loop::{Ready, Source, SourceFault, Sources};
-use mcv_turn::HeldLeg;
+use mcv_turn::{HeldLeg, Performed};
 use mio::event::Event;
 use mio::net::TcpStream;
 use mio::{Events, Interest, Poll, Token};
@@ -219,8 +219,8 @@ impl<R: Net + Clock + Wait + Copy + Drop, D: Door> Sources for PollSources<R, D>
         self.mailbox.send(&self.rt, hub, held)
     }
 
-    fn finish(&mut self, _pass: &Pass, number: u64) {
-        self.mailbox.finish(&self.rt, number);
+    fn finish(&mut self, _pass: &Pass, performed: Performed) {
+        self.mailbox.finish(&self.rt, performed.number());
     }
 
     fn discard(&mut self, _pass: &Pass, past: Past) {

@@ -2,7 +2,11 @@
 #![tactic(auto)]
 
 #[cfg(test)]
+mod disk;
+#[cfg(test)]
 mod gate;
+#[cfg(test)]
+mod legs;
 #[cfg(test)]
 mod office;
 #[cfg(test)]

@@ -5,9 +5,10 @@ ghost use Rattle.std.specs.Arc.{arc_value};
 ghost use Rattle.std.specs.Int.NonZero.{non_zero_usize_get};
 ghost use Rattle.mcv_core.specs.Opening.{opened_within};
 
+use crate::legs::held_legs;
 use crate::rows;
 use mcv_check::Accepted;
-use mcv_hub::{Capacity, Hub, HubLedger, Pass};
+use mcv_hub::{Capacity, Hub, HubLedger, Passes};
 use mcv_verdict::{Judgement, judge_input};
 use std::marker::Brand;
 use std::net::{Net, TcpListener, TcpStream};
@@ -30,6 +31,7 @@ enum Row {
     LastClientComes,
     DrainBegins,
     ServersAreConnected,
+    RecordsAreStored,
 }
 
 /// What the checker accepts of a configuration.
@@ -41,14 +43,48 @@ fn accepted_of(rt: &(impl AllocGlobal + Abort), text: &str) -> Arc<Accepted> {
     }
 }
 
-/// A pass of a hub over these routes.
-fn pass_of<B: HubLedger, T: Ledger>(
-    rt: &(impl AllocGlobal + Abort),
+/// Plays a row with a pass of this hub.
+fn play_over<B: HubLedger, T: Ledger, R>(rt: R, row: Row, hub: &Hub<B, T>, passes: Passes<B, T>)
+where
+    R: Net<Stream = TcpStream, Listener = TcpListener>
+        + AllocGlobal
+        + Clock
+        + Wait
+        + Abort
+        + Copy
+        + Drop,
+{
+    let mut passes = passes;
+    let pass = passes.pass();
+    match row {
+        Row::ClientsCome => rows::clients_come(rt, &pass),
+        Row::LastClientComes => rows::last_client_comes(rt, &pass),
+        Row::DrainBegins => rows::drain_begins(rt, &pass),
+        Row::ServersAreConnected => rows::servers_are_connected(rt, &pass),
+        Row::RecordsAreStored => {
+            let held = held_legs(&rt, hub, &mut passes);
+            rows::records_are_stored(rt, &pass, held);
+        }
+    }
+}
+
+/// Plays a row with a hub over these routes.
+fn play_with<B: HubLedger, T: Ledger, R>(
+    rt: R,
+    row: Row,
     accepted: Arc<Accepted>,
     flights: NonZeroUsize,
     begun: Blank,
     taken: Blank,
-) -> Pass
+)
+where
+    R: Net<Stream = TcpStream, Listener = TcpListener>
+        + AllocGlobal
+        + Clock
+        + Wait
+        + Abort
+        + Copy
+        + Drop,
     requires begun { (begun.name ≡ B.name) × (begun.parts ≡ B.parts) × (begun.parts ≡ SEATS + 1) }
     requires taken { (taken.name ≡ T.name) × (taken.parts ≡ T.parts) × (taken.parts ≡ SEATS + 1) }
     requires number { 0 ≡ B.number }
@@ -59,7 +95,7 @@ fn pass_of<B: HubLedger, T: Ledger>(
         bells: 1,
         seats: SEATS,
     };
-    let (_hub, passes) = Hub::<B, T>::new(
+    let (hub, passes) = Hub::<B, T>::new(
         rt.alloc(),
         accepted,
         0,
@@ -67,20 +103,8 @@ fn pass_of<B: HubLedger, T: Ledger>(
         capacity,
         begun,
         taken,
-    ).expect(rt, "memory");
-    passes.pass()
-}
-
-/// A pass of a hub.
-fn pass(rt: &(impl AllocGlobal + Abort)) -> Pass {
-    let flights = NonZeroUsize::new(1).expect(rt, "a limit");
-    pass_of::<Brand, Brand>(
-        rt,
-        accepted_of(rt, ONE),
-        flights,
-        Blank::new(SEATS + 1),
-        Blank::new(SEATS + 1),
-    )
+    ).expect(&rt, "memory");
+    play_over(rt, row, &hub, passes);
 }
 
 /// Plays a row.
@@ -92,17 +116,17 @@ where
         + Wait
         + Abort
         + Copy
-        + Drop
-        + Send
-        + 'static,
+        + Drop,
 {
-    let pass = pass(&rt);
-    match row {
-        Row::ClientsCome => rows::clients_come(rt, &pass),
-        Row::LastClientComes => rows::last_client_comes(rt, &pass),
-        Row::DrainBegins => rows::drain_begins(rt, &pass),
-        Row::ServersAreConnected => rows::servers_are_connected(rt, &pass),
-    }
+    let flights = NonZeroUsize::new(1).expect(&rt, "a limit");
+    play_with::<Brand, Brand, R>(
+        rt,
+        row,
+        accepted_of(&rt, ONE),
+        flights,
+        Blank::new(SEATS + 1),
+        Blank::new(SEATS + 1),
+    );
 }
 
 #[test]
@@ -123,4 +147,9 @@ fn nobody_comes_into_a_drain(rt: HostRuntime) {
 #[test]
 fn servers_are_connected(rt: HostRuntime) {
     play(rt, Row::ServersAreConnected);
+}
+
+#[test]
+fn records_are_stored_in_their_order(rt: HostRuntime) {
+    play(rt, Row::RecordsAreStored);
 }

@@ -1,10 +1,15 @@
 //! What happens at the sockets of a loop.
 
-use crate::office::{Said, open, server};
-use mcv_base::ServerId;
+use crate::disk::BlankDisk;
+use crate::legs::KEYS;
+use crate::office::{Gives, Said, open, server};
+use mcv_base::{LegId, ServerId};
 use mcv_connection::Connection;
 use mcv_hub::Pass;
 use mcv_loop::{Ready, Source, Sources};
+use mcv_poll::serve_spool;
+use mcv_spool::Spool;
+use mcv_turn::HeldLeg;
 use std::io::{Read, Write};
 use std::net::{Net, Shutdown, TcpListener, TcpStream};
 use std::process::Abort;
@@ -130,4 +135,63 @@ where
     assert!(rt; away.is_none() || office.says(pass, Said::End(server(1))));
     assert!(rt; office.sources.connect(pass, 0, ServerId(2)).is_none());
     assert!(rt; office.sources.connect(pass, 1, ServerId(0)).is_none());
+}
+
+/// The loop is told that the record of this leg and this key was stored, for the hub of this number, in the slot of this number, which
+/// was the last one then.
+fn check_stored(rt: &impl Abort, said: &Gives, number: usize, leg: LegId, key: u8) {
+    let Ready::Stored { hub, stored, slots } = said else {
+        panic!(rt; "something else is ready");
+    };
+    assert!(rt;
+        stored.leg == leg,
+        "it is of {:?}, not of {leg:?}",
+        stored.leg
+    );
+    assert!(rt; *hub == number, "{leg:?} is told to hub {hub}");
+    assert!(rt;
+        slots.checked_sub(1) == Some(number),
+        "{slots} slots at {leg:?}"
+    );
+    match &stored.outcome {
+        Ok(record) => {
+            assert!(rt; record.seq() == number as u64, "another place");
+            assert!(rt;
+                record.record().rest.as_bytes() == [key].as_slice(),
+                "another key"
+            );
+        }
+        Err(fault) => panic!(rt; "the spool refused {leg:?}: {fault:?}"),
+    }
+}
+
+/// Records are stored in the order in which their legs were handed over, and the loop is told of each in this order, with its hub and
+/// the slots of the file. The spool's thread finds all of them, and ends behind the last one.
+pub(crate) fn records_are_stored<R>(rt: R, pass: &Pass, held: Vec<HeldLeg>)
+where
+    R: Net<Stream = TcpStream, Listener = TcpListener>
+        + AllocGlobal
+        + Clock
+        + Wait
+        + Abort
+        + Copy
+        + Drop,
+{
+    let mut office = open(rt, 1);
+    let mut legs = Vec::new(rt.alloc());
+    for (number, held) in held.into_iter().enumerate() {
+        legs.push(held.leg).expect(&rt, "memory");
+        assert!(rt; office.sources.store(pass, number, held));
+    }
+    office.mailbox.end(&rt);
+    let spool = Spool::open(rt.alloc(), BlankDisk);
+    let mut spool = spool.ok().expect(&rt, "a spool");
+    serve_spool(&rt, &mut spool, &office.mailbox);
+    let told = office.wait_for(pass, Said::Stored);
+    assert!(rt; told.len() == KEYS.len() && legs.len() == KEYS.len());
+    for (number, said) in told.iter().enumerate() {
+        let leg = legs.get(number).expect(&rt, "a leg");
+        let key = KEYS.get(number).expect(&rt, "a key");
+        check_stored(&rt, said, number, *leg, *key);
+    }
 }

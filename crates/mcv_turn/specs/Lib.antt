@@ -6,3 +6,4 @@ pub mod Refusals
 pub mod Runs
 pub mod Shown
 pub mod Steps
+pub mod Values

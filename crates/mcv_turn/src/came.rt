@@ -65,11 +65,27 @@ pub struct Marked {
     pub is_marked: bool,
 }
 
-/// The server has performed a leg that was sent again, of which the spool has the record of this number.
-#[derive(Clone, Copy, Debug, PartialEq, Eq)]
+/// A record that is done: its server has performed the leg, which was sent again. A turn alone makes one, and it can't be copied.
+#[derive(Debug, Drop)]
 pub struct Performed {
-    pub server: ServerId,
-    pub number: u64,
+    pub(crate) server: ServerId,
+    pub(crate) number: u64,
+}
+
+impl Performed {
+    /// Its server.
+    pub fn server(&self) -> ServerId
+        ensures { result ≡ self.now.server }
+    {
+        self.server
+    }
+
+    /// The number that the record has in the spool.
+    pub fn number(&self) -> u64
+        ensures { result ≡ self.now.number }
+    {
+        self.number
+    }
 }
 
 /// What is to be done once the lock is let go, and what there is to be noted of the hub.

@@ -57,6 +57,8 @@ pub struct LoopDesk<'a, B: HubLedger, T: Ledger> {
     /// Requests were asked since the last turn.
     is_asked: bool,
     refusals: Refusals<B>,
+    /// How many bytes the values of an answer may have.
+    most: usize,
     /// How many chapters its turns have begun: the number of the hub's chapter, where nothing else begins one.
     chapter: u64,
 }
@@ -71,11 +73,13 @@ fn make_room(
 }
 
 impl<'a, B: HubLedger, T: Ledger> LoopDesk<'a, B, T> {
-    /// A desk over a hub that was asked nothing.
+    /// A desk over a hub that was asked nothing. No further calls are begun for a request for which replies were taken whose values have
+    /// more than so many bytes together.
     pub fn new(
         alloc: Global,
         hub: &'a Hub<B, T>,
         seat: Seat<B, T>,
+        most: usize,
     ) -> Result<LoopDesk<'a, B, T>, AllocError>
         ensures { IfOk result (λ d. (number : ℕ) → open_at d.questions number ≡ None) }
     {
@@ -94,6 +98,7 @@ impl<'a, B: HubLedger, T: Ledger> LoopDesk<'a, B, T> {
             notes: Notes::new(alloc, texts, servers),
             is_asked: false,
             refusals: Refusals::new(),
+            most,
             chapter: 0,
         })
     }
@@ -323,6 +328,7 @@ impl<'a, B: HubLedger, T: Ledger> LoopDesk<'a, B, T> {
             &mut self.seat,
             &mut self.questions,
             number,
+            self.most,
         );
         self.refusals.note(refused);
         self.note_begun(number);

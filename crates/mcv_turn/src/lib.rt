@@ -24,6 +24,7 @@ mod servers;
 mod shown;
 mod spooling;
 mod take;
+mod values;
 
 pub use crate::answer::{Answer, Asker, fault_for};
 pub use crate::arrival::{Arrival, NoReply};
@@ -32,3 +33,4 @@ pub use crate::desk::LoopDesk;
 pub use crate::flight::{Flight, HeldLeg};
 pub use crate::keys::key_count;
 pub use crate::refusals::Refused;
+pub use crate::values::{are_within, value_bytes};

@@ -1,6 +1,6 @@
 //! A request at a hub, from its first call to its last reply.
 
-ghost use Rattle.std.specs.Prelude.{◌≡◌, ◌≤◌, [], true, None, IfErr, IfNone, IfOk, IfSome, map, vec_capacity, vec_len};
+ghost use Rattle.std.specs.Prelude.{◌≡◌, ◌≤◌, [], true, None, Some, IfErr, IfNone, IfOk, IfSome, map, vec_capacity, vec_len};
 ghost use Rattle.mcv_core.specs.declared.fault.CoreFault.{CoreFault as Fault};
 ghost use Rattle.std.specs.Arc.{arc_value};
 ghost use Rattle.mcv_session.specs.Desk.{answer_value};
@@ -16,6 +16,7 @@ use crate::begin::begin_each;
 use crate::kept::Kept;
 use crate::keys::{are_for, key_count};
 use crate::take::{Progress, take_ready};
+use crate::values::is_room_left;
 use mcv_base::{CallId, Part, Request};
 use mcv_core::CoreFault;
 use mcv_hub::{Guard, HubLedger, Seat, TakenReply};
@@ -138,12 +139,25 @@ impl<B: HubLedger> Question<B> {
         })
     }
 
-    /// Begins calls for further keys, in their order, until 1,024 of them run or one is refused. Why one was, if one was.
+    /// No call is begun for a further key, as where there is no memory.
+    fn stop<T: Ledger>(&mut self, guard: &Guard<'_, B, T>)
+        ensures asked { asked_in self.new ≡ asked_in self.old }
+        ensures refused { self.new.refused ≡ Some CoreFault.Memory }
+        ensures why { WasCallRefused B.opened CoreFault.Memory }
+    {
+        guard.is_opened();
+        guard.deletes_are_kept();
+        self.refused = Some(CoreFault::Memory);
+    }
+
+    /// Begins calls for further keys, in their order, until 1,024 of them run or one is refused, as the next one is where the values of
+    /// the replies so far have more than so many bytes. Why one was, if one was.
     pub(crate) fn begin<T: Ledger>(
         &mut self,
         alloc: Global,
         guard: &mut Guard<'_, B, T>,
         seat: &mut Seat<B, T>,
+        most: usize,
     ) -> Option<CoreFault>
         ensures run { Runs guard.old [] [] guard.new }
         ensures asked { asked_in self.new ≡ asked_in self.old }
@@ -156,6 +170,10 @@ impl<B: HubLedger> Question<B> {
         let to = next_limit(self.count, self.progress.done);
         if to < self.calls.len() {
             return None;
+        }
+        if !is_room_left(self.taken.as_slice(), most) {
+            self.stop(guard);
+            return Some(CoreFault::Memory);
         }
         let begun = begin_each(alloc, guard, seat, &self.request, to, &mut self.calls);
         match begun {

@@ -51,13 +51,15 @@ pub(crate) fn awaits_at<B: HubLedger>(
     questions.get(number)?.awaits()
 }
 
-/// Begins calls for further keys of the question of this number, if there is one. Why one was refused, if one was.
+/// Begins calls for further keys of the question of this number, if there is one, whose values may have so many bytes. Why one was
+/// refused, if one was.
 pub(crate) fn begin_at<B: HubLedger, T: Ledger>(
     alloc: Global,
     guard: &mut Guard<'_, B, T>,
     seat: &mut Seat<B, T>,
     questions: &mut Slab<Question<B>>,
     number: usize,
+    most: usize,
 ) -> Option<CoreFault>
     ensures run { Runs guard.old [] [] guard.new }
     ensures same { AreSameOpen questions.old questions.new }
@@ -66,7 +68,7 @@ pub(crate) fn begin_at<B: HubLedger, T: Ledger>(
     let Some(question) = questions.get_mut(number) else {
         return None;
     };
-    question.begin(alloc, guard, seat)
+    question.begin(alloc, guard, seat, most)
 }
 
 /// Takes the replies to the question of this number that are there, if there is one. False where one may be left, for want of memory

@@ -103,7 +103,7 @@ impl<'a, B: HubLedger, T: Ledger> Scene<'a, B, T> {
     ) -> Scene<'a, B, T> {
         let alloc = rt.alloc();
         let seat = passes.seat().expect(rt, "a seat");
-        let desk = LoopDesk::new(alloc, hub, seat).expect(rt, "memory");
+        let desk = LoopDesk::new(alloc, hub, seat, usize::MAX).expect(rt, "memory");
         let mut scene = Scene {
             hub,
             pass: passes.pass(),
@@ -259,7 +259,7 @@ impl<'a, B: HubLedger, T: Ledger> Scene<'a, B, T> {
             self.marks.push(mark).expect(rt, "memory");
         }
         for done in performed {
-            self.spool.done(done.number).ok().expect(rt, "a record");
+            self.spool.done(done.number()).ok().expect(rt, "a record");
             self.finished = self.finished.saturating_add(1);
         }
         for flight in flights {

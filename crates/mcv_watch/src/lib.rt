@@ -25,8 +25,13 @@ pub struct Load {
     pub bytes: u64,
 }
 
-/// Who notes what happens. One that looks at nothing keeps what is written here.
+/// Who notes what happens. One that looks at nothing keeps what is written here, and says that it looks at no legs.
 pub trait Watch: Drop {
+    ghost use Rattle.std.specs.Prelude.{◌≡◌, Bool};
+
+    /// Whether somebody looks at how many legs wait.
+    ghost looks: { Self → Bool };
+
     /// A session asks a request.
     fn note_asked(&mut self, _request: &Request) {}
 
@@ -70,9 +75,8 @@ pub trait Watch: Drop {
     fn note_unserved(&mut self) {}
 
     /// Whether somebody looks at how many legs wait. Where nobody does they aren't counted.
-    fn looks_at_waiting(&self) -> bool {
-        false
-    }
+    fn looks_at_waiting(&self) -> bool
+        ensures { result ≡ looks self.now };
 
     /// Says what is left to be said of an earlier time. It is called some times a second.
     fn catch_up(&mut self) {}
@@ -82,4 +86,12 @@ pub trait Watch: Drop {
 #[derive(Clone, Copy, Debug, Default)]
 pub struct Unwatched;
 
-impl Watch for Unwatched {}
+impl Watch for Unwatched {
+    ghost use Rattle.std.specs.Prelude.{false};
+
+    ghost looks = { λ watch. false };
+
+    fn looks_at_waiting(&self) -> bool {
+        false
+    }
+}

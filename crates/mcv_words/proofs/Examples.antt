@@ -212,6 +212,25 @@ no_clients : faults (run_line ++ codes "--max-clients" ∷ codes "0" ∷ []) ≡
 unfolding clap_on_literals
 no_clients = refl
 
+abbrev answer_bytes_of : Option (Text × List Row) → Option (Option Text)
+answer_bytes_of = option_map (λ p. one_of (codes "answer-bytes") p.1)
+
+answer_bytes_named : answer_bytes_of (named (run_line ++ codes "--answer-bytes" ∷ codes "1099511627776" ∷ [])) ≡ Some (Some (codes "1099511627776"))
+unfolding clap_on_literals
+answer_bytes_named = refl
+
+answer_bytes_left_out : answer_bytes_of (named run_line) ≡ Some (Some (codes "67108864"))
+unfolding clap_on_literals
+answer_bytes_left_out = refl
+
+no_answer_bytes : faults (run_line ++ codes "--answer-bytes" ∷ codes "0" ∷ []) ≡ ValueValidation ∷ []
+unfolding clap_on_literals
+no_answer_bytes = refl
+
+too_many_answer_bytes : faults (run_line ++ codes "--answer-bytes" ∷ codes "1099511627777" ∷ []) ≡ ValueValidation ∷ []
+unfolding clap_on_literals
+too_many_answer_bytes = refl
+
 admin_named : option_map (λ (p : Text × List Row). one_of (codes "admin") p.1) (named (run_line ++ codes "--admin" ∷ codes "127.0.0.1:5001" ∷ [])) ≡ Some (Some (codes "127.0.0.1:5001"))
 unfolding clap_on_literals
 admin_named = refl

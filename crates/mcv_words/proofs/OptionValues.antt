@@ -25,7 +25,7 @@ use Rattle.clap.specs.declared.builder.value_parser.Reading.TheVariants.{AsWritt
 use Rattle.clap.specs.declared.parser.matches.ValueSource.{ValueSource}
 use Rattle.clap.specs.declared.parser.matches.ValueSource.TheVariants.{CommandLine, DefaultValue}
 use Rattle.clap.proofs.ValueTestLemmas.{accepts-Accepts}
-use Rattle.mcv_words.specs.Table.{NumberOption, at_option, client_timeout_option, hubs_option, max_clients_option, server_timeout_option, sessions_option, window_option}
+use Rattle.mcv_words.specs.Table.{NumberOption, answer_bytes_option, at_option, client_timeout_option, hubs_option, max_clients_option, server_timeout_option, sessions_option, window_option}
 use Rattle.mcv_words.specs.Words.{CanRun, IsGivenIn, MayBeGivenIn, check_app, faults, file_rule, flag_rule, legs_app, mcv_app, named, number_rule, option_rule, run_app, spool_app}
 use Rattle.mcv_words.proofs.CommandIsNamed.{StopsAtCommand, none_below, none_of, some_kind, stop_of, stops_at_command}
 
@@ -507,7 +507,13 @@ run_tame = (
           number_tame run window_option refl,
           (
             number_tame run server_timeout_option refl,
-            (number_tame run client_timeout_option refl, (number_tame run max_clients_option refl, (text_tame run (codes "admin") false refl, (help_tame run, tt)))),
+            (
+              number_tame run client_timeout_option refl,
+              (
+                number_tame run max_clients_option refl,
+                (number_tame run answer_bytes_option refl, (text_tame run (codes "admin") false refl, (help_tame run, tt))),
+              ),
+            ),
           ),
         ),
       ),
@@ -522,7 +528,7 @@ both_given false b e = absurd (some_kind MissingRequiredArgument [] e)
 
 run_given : (words : List Text) → level_fault run [] nothing_held words false [] ≡ [] → CanRun (rows_after run.rules [] words)
 run_given words none =
-    let suit : HaveGoodDefaults run.rules run.rules = (tt, (tt, (tt, ((refl, refl), ((refl, refl), (tt, (tt, (tt, (tt, (tt, tt)))))))))) in
+    let suit : HaveGoodDefaults run.rules run.rules = (tt, (tt, (tt, ((refl, refl), ((refl, refl), (tt, (tt, (tt, ((refl, refl), (tt, (tt, tt))))))))))) in
     let end = ended run run_tame suit words none in
     let rows : List Row = rows_after run.rules [] words in
     let both = both_given (is_given (codes "listen") rows) (is_given (codes "spool") rows) end.1 in
@@ -535,6 +541,9 @@ run_given words none =
       server_timeout = may_be_given_in run.rules server_timeout_option rows refl end.0;
       client_timeout = may_be_given_in run.rules client_timeout_option rows refl end.0;
       max_clients = may_be_given_in run.rules max_clients_option rows refl end.0;
+      answer_bytes =
+          given_in run.rules answer_bytes_option rows refl end.0
+          (defaults_row run answer_bytes_option.name words refl (inr (inr (inr (inr (inr (inr (inr (inr (inl (refl, refl)))))))))));
     }
 
 -- ---- `spool`

@@ -41,3 +41,7 @@ client_timeout_option = record { name = codes "client-timeout"; least = 1; most 
 -- the clients that are served at once
 abbrev pub max_clients_option : NumberOption
 max_clients_option = record { name = codes "max-clients"; least = 1; most = 1000000; default = None }
+
+-- the bytes of values that the answer to one request may hold
+abbrev pub answer_bytes_option : NumberOption
+answer_bytes_option = record { name = codes "answer-bytes"; least = 1; most = 1099511627776; default = Some (codes "67108864") }

@@ -8,7 +8,7 @@ use Rattle.clap.specs.declared.builder.action.ArgAction.TheVariants.{SetTrue}
 use Rattle.clap.specs.declared.builder.value_parser.ValueParser.TheVariants as parsers
 use Rattle.clap.specs.declared.error.kind.ErrorKind.{ErrorKind}
 use Rattle.clap.specs.declared.error.kind.ErrorKind.TheVariants.{DisplayHelp, DisplayVersion, OutOfMemory}
-use Rattle.mcv_words.specs.Table.{NumberOption, at_option, client_timeout_option, hubs_option, max_clients_option, option_of, server_timeout_option, sessions_option, window_option}
+use Rattle.mcv_words.specs.Table.{NumberOption, answer_bytes_option, at_option, client_timeout_option, hubs_option, max_clients_option, option_of, server_timeout_option, sessions_option, window_option}
 use Rattle.mcv_words.specs.declared.options.CheckOptions.{CheckOptions}
 use Rattle.mcv_words.specs.declared.options.ClientTimeout.{ClientTimeout}
 use Rattle.mcv_words.specs.declared.options.MaxClients.{MaxClients}
@@ -99,6 +99,7 @@ run_rules =
     ∷ number_rule server_timeout_option
     ∷ number_rule client_timeout_option
     ∷ number_rule max_clients_option
+    ∷ number_rule answer_bytes_option
     ∷ option_rule (codes "admin")
     ∷ []
 
@@ -182,6 +183,7 @@ pub record HasSettings (rows : List Row) (s : Settings) : Type 0 where
   pub server_timeout : IsNumberIfGiven server_timeout_option.name rows (option_map (λ (t : ServerTimeout). t.millis) s.server_timeout)
   pub client_timeout : IsNumberIfGiven client_timeout_option.name rows (option_map (λ (t : ClientTimeout). t.millis) s.client_timeout)
   pub max_clients : IsNumberIfGiven max_clients_option.name rows (option_map (λ (n : MaxClients). n.count) s.max_clients)
+  pub answer_bytes : IsNumberOf answer_bytes_option.name rows s.answer_bytes.bytes
 
 -- what `run` is asked for: the address, the name of the spool's file, the operator's address or none, and the numbers, each of which is in its
 -- range by its type
@@ -284,6 +286,7 @@ pub record CanRun (rows : List Row) : Type 0 where
   pub server_timeout : MayBeGivenIn server_timeout_option rows
   pub client_timeout : MayBeGivenIn client_timeout_option rows
   pub max_clients : MayBeGivenIn max_clients_option rows
+  pub answer_bytes : IsGivenIn answer_bytes_option rows
 
 -- clap takes the words, and they name the job's command with the values that the job has
 abbrev pub IsJobOf : List Text → Job → Type 0

@@ -257,9 +257,10 @@ taken to when it is closed. `calls` is how many calls the sessions began: one
 for each key of a request.
 
 Each hub has its own connections to every server, and the keys whose hash names
-it: requests for one key reach each server in one order. Have as many as the
-machine has processors. A get of keys that have several hubs asks these one
-after another.
+it: requests for one key reach each server in one order. One thread serves all
+of them, so that more make nothing faster; but a call that hangs keeps the
+history of its own hub alone. A get of keys that have several hubs asks these
+one after another.
 
 A server that doesn't reply in its time has failed: the connection is closed,
 what it was asked isn't sent again at once (a delete goes to the spool), and

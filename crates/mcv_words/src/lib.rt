@@ -8,8 +8,8 @@ mod table;
 mod words;
 
 pub use options::{
-    CheckOptions, ClientTimeout, Hubs, InRange, MaxClients, RunOptions, ServerTimeout, Sessions,
-    Settings, SpoolOptions, Window,
+    AnswerBytes, CheckOptions, ClientTimeout, Hubs, InRange, MaxClients, RunOptions, ServerTimeout,
+    Sessions, Settings, SpoolOptions, Window,
 };
 pub use table::NumberRow;
 pub use words::{Job, LineFault, read_words};

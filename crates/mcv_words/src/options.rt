@@ -1,10 +1,10 @@
 //! What `check` and `run` are asked for. Each number has a type of its own, which keeps it in the range of its option's row.
 
 ghost use Rattle.std.specs.Prelude.{◌≡◌, ◌↔◌, ◌≤◌, ℕ, IfSome, IsSome};
-ghost use Rattle.mcv_words.specs.Table.{NumberOption, client_timeout_option, hubs_option, max_clients_option, option_of, server_timeout_option, sessions_option, window_option};
+ghost use Rattle.mcv_words.specs.Table.{NumberOption, answer_bytes_option, client_timeout_option, hubs_option, max_clients_option, option_of, server_timeout_option, sessions_option, window_option};
 
 use crate::table::{
-    CLIENT_TIMEOUT, HUBS, MAX_CLIENTS, NumberRow, SERVER_TIMEOUT, SESSIONS, WINDOW,
+    ANSWER_BYTES, CLIENT_TIMEOUT, HUBS, MAX_CLIENTS, NumberRow, SERVER_TIMEOUT, SESSIONS, WINDOW,
 };
 
 /// A number that an option takes.
@@ -167,6 +167,30 @@ impl InRange for MaxClients {
     }
 }
 
+/// How many bytes of values the answer to one request may hold, from 1 to 1,099,511,627,776.
+#[derive(Clone, Copy, Debug, PartialEq, Eq)]
+pub struct AnswerBytes {
+    pub bytes: u64,
+    pub ghost in_range: { (answer_bytes_option.least ≤ bytes) × (bytes ≤ answer_bytes_option.most) },
+}
+
+impl InRange for AnswerBytes {
+    ghost option = { answer_bytes_option };
+
+    ghost value = { λ answer. answer.bytes };
+
+    fn row() -> NumberRow {
+        ANSWER_BYTES
+    }
+
+    fn new(number: u64) -> Option<AnswerBytes> {
+        if !Self::row().contains(number) {
+            return None;
+        }
+        Some(AnswerBytes { bytes: number })
+    }
+}
+
 /// Within which window a configuration is judged, and what is said of it.
 #[derive(Clone, Copy, Debug, PartialEq, Eq)]
 pub struct CheckOptions {
@@ -193,6 +217,7 @@ pub struct Settings {
     pub client_timeout: Option<ClientTimeout>,
     /// None where any number of clients is served at once.
     pub max_clients: Option<MaxClients>,
+    pub answer_bytes: AnswerBytes,
 }
 
 /// What `run` is asked for.

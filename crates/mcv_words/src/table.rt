@@ -61,7 +61,7 @@ pub(crate) const CHECK: [OptionRow; 5] = [
 ];
 
 /// The options of `run`, in the order of its help.
-pub(crate) const RUN: [OptionRow; 9] = [
+pub(crate) const RUN: [OptionRow; 10] = [
     OptionRow::Text(LISTEN),
     OptionRow::Text(SPOOL),
     OptionRow::Number(SESSIONS),
@@ -70,6 +70,7 @@ pub(crate) const RUN: [OptionRow; 9] = [
     OptionRow::Number(SERVER_TIMEOUT),
     OptionRow::Number(CLIENT_TIMEOUT),
     OptionRow::Number(MAX_CLIENTS),
+    OptionRow::Number(ANSWER_BYTES),
     OptionRow::Text(ADMIN),
 ];
 
@@ -141,6 +142,16 @@ pub(crate) const MAX_CLIENTS: NumberRow = NumberRow {
     default: None,
     help: "How many clients are served at once,
 from 1 to 1000000; without it, any number",
+};
+
+pub(crate) const ANSWER_BYTES: NumberRow = NumberRow {
+    name: "answer-bytes",
+    value: "N",
+    least: 1,
+    most: 1_099_511_627_776,
+    default: Some("67108864"),
+    help: "The most bytes of values in one request's answer,
+from 1 to 1099511627776",
 };
 
 pub(crate) const CERT: TextRow = TextRow {

@@ -13,8 +13,8 @@ use crate::help::{
     MEND_ABOUT, MEND_FORM, RUN_ABOUT, RUN_FORM, SPOOL_ABOUT, SPOOL_FORM,
 };
 use crate::options::{
-    CheckOptions, ClientTimeout, Hubs, InRange, MaxClients, RunOptions, ServerTimeout, Sessions,
-    Settings, SpoolOptions, Window,
+    AnswerBytes, CheckOptions, ClientTimeout, Hubs, InRange, MaxClients, RunOptions, ServerTimeout,
+    Sessions, Settings, SpoolOptions, Window,
 };
 use crate::table::{
     ADMIN, ALL, AT, CERT, CHECK, DOT, EXPLAIN, JSON, LISTEN, PATCH, QUIET, RUN, SPOOL, flag,
@@ -283,6 +283,9 @@ fn run_job<'a>(found: &ArgMatches<'a>) -> Result<Job<'a>, LineFault>
     let server_timeout = number_of::<ServerTimeout>(found)?;
     let client_timeout = number_of::<ClientTimeout>(found)?;
     let max_clients = number_of::<MaxClients>(found)?;
+    let Some(answer_bytes) = number_of::<AnswerBytes>(found)? else {
+        return Err(LineFault::BadLine);
+    };
     let admin = found.get_str(ADMIN.name);
     Ok(Job::Run(RunOptions {
         listen,
@@ -295,6 +298,7 @@ fn run_job<'a>(found: &ArgMatches<'a>) -> Result<Job<'a>, LineFault>
             server_timeout,
             client_timeout,
             max_clients,
+            answer_bytes,
         },
     }))
 }

@@ -1,12 +1,15 @@
 """Many clients at once, and clients that do harm."""
 import contextlib
 import random
+import resource
+import select
 import signal
 import socket
 import threading
 import time
 
-from fakes import PERFORM, Fake
+from cases.requests import OUT_OF_MEMORY, get_of
+from fakes import Fake, Late
 from parts import (LIMIT, UNLIMITED, Client, Failed, address_of, case, deletes_to_all, expect, freeze, one_pool, records, replayed,
                    stored, value_answer, wait_for)
 
@@ -25,6 +28,68 @@ def three_hundred_connections_at_once(machine):
         for n, client in enumerate(clients):
             client.ask(b"delete k%d\r\nquit\r\n" % n, b"DELETED\r\n")
             expect(client.rest(), b"")
+
+
+@contextlib.contextmanager
+def many_files():
+    """This program, and those that it starts meanwhile, may have as many files open as the system lets them."""
+    before = resource.getrlimit(resource.RLIMIT_NOFILE)
+    resource.setrlimit(resource.RLIMIT_NOFILE, (before[1], before[1]))
+    try:
+        yield
+    finally:
+        resource.setrlimit(resource.RLIMIT_NOFILE, before)
+
+
+def begun(address):
+    """A connection that is begun, and isn't waited for."""
+    client = socket.socket()
+    client.setblocking(False)
+    client.connect_ex(address)
+    return client
+
+
+def wait_for_each(clients, event, end, what):
+    """Waits until each connection is ready for this, up to a moment."""
+    poll, left = select.poll(), len(clients)
+    for client in clients:
+        poll.register(client, event)
+    while left:
+        ready = poll.poll(1000 * max(end - time.monotonic(), 0))
+        if not ready:
+            raise Failed("%d of %d clients %s" % (left, len(clients), what))
+        for number, _ in ready:
+            poll.unregister(number)
+        left -= len(ready)
+
+
+def come_at_once(process, text, count, seconds):
+    """So many clients connect to a program that is held meanwhile, so that all have to wait for it together. Each is connected, and
+    is answered once the program goes on, all within so many seconds."""
+    freeze(process)
+    end = time.monotonic() + seconds
+    with contextlib.ExitStack() as kept:
+        clients = [kept.enter_context(begun(address_of(text))) for _ in range(count)]
+        wait_for_each(clients, select.POLLOUT, end, "aren't connected")
+        process.send_signal(signal.SIGCONT)
+        for client in clients:
+            client.send(b"get a\r\n")
+        wait_for_each(clients, select.POLLIN, end, "aren't answered")
+        for client in clients:
+            expect(client.recv(100), b"END\r\n")
+
+
+@case()
+def two_thousand_clients_that_come_at_once_are_served_at_once(machine):
+    """As many as may wait for a listener at a time, where the system allows fewer. Who doesn't get a place there tries again after a
+    second, and then after two more."""
+    with open("/proc/sys/net/core/somaxconn") as file:
+        count = min(2000, int(file.read()))
+    with many_files():
+        mcv = machine.mcv(one_pool(machine.servers(1)))
+        come_at_once(mcv.process, mcv.address, count, 3)
+        with mcv.client() as client:
+            client.ask(b"get a\r\n", b"END\r\n")
 
 
 def working(mcv, number, stop, faults, done):
@@ -170,6 +235,41 @@ def large_values_are_let_go_of(machine):
         raise Failed("the program had %d megabytes" % max(one[0] for one in most))
 
 
+def refused(mcv, asked, faults):
+    """Asks for answers that are past their limit."""
+    try:
+        with mcv.client() as client:
+            for sent in asked:
+                client.ask(sent, OUT_OF_MEMORY)
+    except (Failed, OSError) as fault:
+        faults.append(str(fault))
+
+
+def peak(mcv):
+    """The most megabytes that a program ever had."""
+    with open("/proc/%d/status" % mcv.process.pid) as status:
+        return next(int(line.split()[1]) // 1024 for line in status if line.startswith("VmHWM:"))
+
+
+@case(120)
+def answers_past_their_limit_take_no_memory(machine):
+    """Eight clients ask for 128 MB each, in lines of 32,000 keys, of which 1,024 are asked for at a time; and then, many times, for a
+    little more than an answer may have. The rest is the history, some 64 MiB of one chapter and of the one before."""
+    mcv = machine.mcv(one_pool(machine.servers(2)), answer_bytes=2_000_000)
+    with mcv.client() as client:
+        client.ask(stored(b"a", b"x" * 4000) + stored(b"b", b"y" * 4000), b"STORED\r\n" * 2)
+    asked = [get_of([b"a", b"b"] * 16000)] * 3 + [get_of([b"a", b"b"] * 300)] * 60
+    faults = []
+    threads = [threading.Thread(target=refused, args=(mcv, asked, faults)) for _ in range(8)]
+    for thread in threads:
+        thread.start()
+    for thread in threads:
+        thread.join()
+    expect(faults, [], "faults of clients that are refused")
+    if peak(mcv) >= 300:
+        raise Failed("the program had %d megabytes" % peak(mcv))
+
+
 @case()
 def a_client_past_its_time_is_closed(machine):
     mcv = machine.mcv(one_pool(machine.servers(1)), client_timeout=1000)
@@ -268,16 +368,10 @@ def clients_that_go_in_the_midst_stop_no_other(machine):
 @case()
 def a_client_that_sends_no_more_is_answered_whole(machine):
     """The end of its bytes is seen together with its last requests, or comes while one of them is out."""
-    go = threading.Event()
-
-    def mood():
-        go.wait(LIMIT)
-        return PERFORM
-
-    server = machine.fake(Fake(mood))
+    server = machine.fake(Late())
     mcv = machine.mcv(one_pool([server.text]), server_timeout=20000)
     for count in (1, 5000):
-        go.set()
+        server.goes.set()
         with mcv.client() as client:
             client.ask(b"get a\r\n", b"END\r\n")
             freeze(mcv.process)
@@ -285,7 +379,7 @@ def a_client_that_sends_no_more_is_answered_whole(machine):
             client.socket.shutdown(socket.SHUT_WR)
             mcv.process.send_signal(signal.SIGCONT)
             expect(client.rest() == b"END\r\n" * count, True, "%d gets, seen together with the end, have another answer" % count)
-        go.clear()
+        server.goes.clear()
         with mcv.client() as client:
             asked = len(server.requests)
             client.send(b"get c\r\n")
@@ -293,7 +387,7 @@ def a_client_that_sends_no_more_is_answered_whole(machine):
             client.send(b"get d\r\n" * count)
             client.socket.shutdown(socket.SHUT_WR)
             time.sleep(0.2)
-            go.set()
+            server.goes.set()
             expect(client.rest() == b"END\r\n" * (count + 1), True, "%d gets behind one that was out have another answer" % count)
 
 

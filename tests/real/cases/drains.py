@@ -6,9 +6,9 @@ import subprocess
 import threading
 import time
 
-from cases.servers import FAILED, LIMITED
+from cases.servers import FAILED, lift_limit, spool_two, with_room_for_two
 from cases.stops import CLIENTS, deleting, missing
-from fakes import PERFORM, SILENCE, Fake
+from fakes import PERFORM, SILENCE, Fake, Late
 from parts import LIMIT, UNLIMITED, Client, Failed, address_of, case, expect, free_port, one_pool, pending, stored, value_answer, wait_for
 
 DRAINS, DRAINS_OF_A_FILE = 200, 5
@@ -61,17 +61,6 @@ def deletes_asynchronously(servers):
     return {"pools": {"A": {"servers": servers}}, "route": route}
 
 
-def with_room_for_two(machine, spool, admin):
-    """A proxy with a server that is away, and a spool that takes two records."""
-    return machine.mcv(one_pool(["127.0.0.1:%d" % free_port()]), before=LIMITED, spool=spool, admin=admin)
-
-
-def spool_two(client):
-    """Two deletes go to the spool."""
-    for key in [b"a", b"b"]:
-        client.ask(b"delete " + key + b"\r\n", b"NOT_FOUND\r\n")
-
-
 @case()
 def an_operator_asks_for_health(machine):
     admin = admin_address()
@@ -109,13 +98,13 @@ def an_operator_who_says_nothing_keeps_no_other_waiting(machine):
 @case()
 def a_spool_that_refuses_is_no_health(machine):
     admin = admin_address()
-    mcv = with_room_for_two(machine, machine.path("mcv.spool"), admin)
+    mcv = with_room_for_two(machine, admin=admin)
     with mcv.client() as client:
         spool_two(client)
         expect(asked(admin, "GET", "/health"), (200, b"ok\n"))
         client.ask(b"delete c\r\n", FAILED)
         wait_for(lambda: asked(admin, "GET", "/health") == (503, b"the spool refuses records\n"), "the spool is said to refuse")
-        machine.start(["prlimit", "--pid", str(mcv.process.pid), "--fsize=unlimited:"]).wait()
+        lift_limit(machine, mcv)
         wait_for(lambda: asked(admin, "GET", "/health") == (200, b"ok\n"), "the spool takes records again")
 
 
@@ -136,13 +125,7 @@ def idle_clients_are_closed_and_none_is_accepted(machine):
 @case()
 def a_request_under_way_is_answered(machine):
     """The server is asked before the drain and answers behind it. Meanwhile the proxy says that it drains."""
-    admin, go = admin_address(), threading.Event()
-
-    def mood():
-        go.wait(LIMIT)
-        return PERFORM
-
-    server = machine.fake(Fake(mood))
+    admin, server = admin_address(), machine.fake(Late())
     mcv = machine.mcv(one_pool([server.text]), admin=admin)
     with mcv.client() as client, mcv.client() as idle:
         client.send(b"delete a\r\n")
@@ -152,7 +135,7 @@ def a_request_under_way_is_answered(machine):
         expect(asked(admin, "GET", "/health"), (503, b"draining\n"))
         wait_for(lambda: is_refused(mcv), "no further client is accepted")
         expect(asked(admin, "POST", "/drain?seconds=25"), (200, b"draining\n"))
-        go.set()
+        server.goes.set()
         expect(client.rest(), b"DELETED\r\n")
     expect(mcv.last_lines(), (b"mcv closed calls 1\n", 0))
     expect(mcv.error_text(), UNLIMITED + b"mcv: a drain began: 20 seconds\nmcv: a drain ended\n")
@@ -186,7 +169,7 @@ def what_isnt_sent_in_time_goes_to_the_spool(machine):
 def a_drain_ends_where_the_spool_refuses(machine):
     """What the spool refused was answered by an error, and goes with the process, which says how many these are."""
     admin, spool = admin_address(), machine.path("mcv.spool")
-    mcv = with_room_for_two(machine, spool, admin)
+    mcv = with_room_for_two(machine, spool=spool, admin=admin)
     with mcv.client() as client:
         spool_two(client)
         client.ask(b"delete c\r\ndelete d\r\n", FAILED + FAILED)
@@ -265,13 +248,7 @@ def a_client_that_takes_nothing_keeps_no_drain(machine):
 @case()
 def a_request_that_was_read_before_a_drain_is_answered_whole(machine):
     """A get of many keys, whose server answers behind the drain's begin."""
-    admin, go = admin_address(), threading.Event()
-
-    def mood():
-        go.wait(LIMIT)
-        return PERFORM
-
-    server = machine.fake(Fake(mood, values=lambda key: b"of " + key))
+    admin, server = admin_address(), machine.fake(Late(lambda key: b"of " + key))
     mcv = machine.mcv(one_pool([server.text]), admin=admin, server_timeout=20000)
     keys = [b"k%d" % n for n in range(300)]
     wanted = b"".join(value_answer(key, b"of " + key)[:-5] for key in keys) + b"END\r\n"
@@ -279,7 +256,7 @@ def a_request_that_was_read_before_a_drain_is_answered_whole(machine):
         client.send(b"get " + b" ".join(keys) + b"\r\n")
         wait_for(lambda: server.requests, "the server is asked")
         expect(asked(admin, "POST", "/drain?seconds=20"), (200, b"draining\n"))
-        go.set()
+        server.goes.set()
         expect(client.rest(), wanted)
     expect(mcv.last_lines(), (b"mcv closed calls 300\n", 0))
 

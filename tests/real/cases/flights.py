@@ -6,7 +6,7 @@ import threading
 import time
 
 from cases.servers import FAILED
-from fakes import BREAK_OFF, DROP, PERFORM, PERFORM_AND_DROP, PERFORM_SILENTLY, REFUSE, SILENCE, Fake, Together
+from fakes import BREAK_OFF, DROP, PERFORM, PERFORM_AND_DROP, PERFORM_SILENTLY, REFUSE, SILENCE, Fake, Late, Together, moody
 from parts import case, expect, one_pool, pending, replayed, stored, value_answer, wait_for
 
 # The most legs of a server that a hub has in flight, and more clients than that, each with one request.
@@ -47,9 +47,7 @@ def answered_once(clients, wanted):
 @case()
 def a_connection_that_breaks_with_64_legs_in_flight_is_one_failure(machine):
     """Gets and deletes are sent once more, over a new connection, and sets aren't. The server isn't marked."""
-    mood = [PERFORM]
-    fake = machine.fake(Fake(lambda: mood[0]))
-    mcv = machine.mcv(one_pool([fake.text]), server_timeout=20000)
+    mood, fake, mcv = moody(machine, server_timeout=20000)
     with contextlib.ExitStack() as kept:
         clients, flying = as_many_as_may_be(mcv, fake, mood, kept)
         sets = {number for number in flying if number % 3 == 2}
@@ -68,9 +66,8 @@ def a_connection_that_breaks_with_64_legs_in_flight_is_one_failure(machine):
 @case()
 def a_server_that_dies_with_64_legs_in_flight_loses_no_delete(machine):
     """It has performed them, and says so of none. Each delete is spooled, those behind them too, and sent again once it is back."""
-    mood, spool = [PERFORM], machine.path("mcv.spool")
-    fake = machine.fake(Fake(lambda: mood[0]))
-    mcv = machine.mcv(one_pool([fake.text]), server_timeout=20000)
+    spool = machine.path("mcv.spool")
+    mood, fake, mcv = moody(machine, server_timeout=20000)
     with contextlib.ExitStack() as kept:
         clients, flying = as_many_as_may_be(mcv, fake, mood, kept)
         deletes = [b"k%d" % number for number in range(0, CLIENTS, 3)]
@@ -201,13 +198,7 @@ def what_a_server_says_unasked_ends_its_connection_and_answers_nobody(machine):
 @case()
 def an_answer_is_never_that_of_a_client_which_has_gone(machine):
     """Twenty clients ask and go, some with a reset, before their server answers. Twenty others come in their place, and ask."""
-    go = threading.Event()
-
-    def mood():
-        go.wait(30)
-        return PERFORM
-
-    fake = machine.fake(Fake(mood, values=lambda key: b"value of " + key))
+    fake = machine.fake(Late(lambda key: b"value of " + key))
     mcv = machine.mcv(one_pool([fake.text]))
     for number in range(20):
         client = mcv.client()
@@ -224,7 +215,7 @@ def an_answer_is_never_that_of_a_client_which_has_gone(machine):
         for number, client in enumerate(clients):
             client.send(b"get k%d\r\n" % number)
         time.sleep(0.2)
-        go.set()
+        fake.goes.set()
         for number, client in enumerate(clients):
             wanted = value_answer(b"k%d" % number, b"value of k%d" % number)
             expect(client.exactly(len(wanted)), wanted, "the answer to client %d" % number)

@@ -2,12 +2,11 @@
 import contextlib
 import signal
 import socket
-import threading
 
 from cases.drains import admin_address
 from cases.metrics import legs
 from cases.servers import FAILED
-from fakes import PERFORM, Fake
+from fakes import Fake, Late
 from parts import case, expect, freeze, one_pool, stored, wait_for
 
 # What changes a value, and would change it twice if it were sent twice, with its answer.
@@ -63,27 +62,21 @@ SETS, MOST_WRITTEN = 40, 12
 def what_a_connection_never_took_is_sent_over_the_next_one(machine):
     """A server stops reading, so that most sets of forty clients wait in mcv, and closes its connection. Sets of which it may have had
     a byte fail; the others, of which nothing was written, are stored. Each reaches the server once at most."""
-    goes = threading.Event()
-    goes.set()
-
-    def mood():
-        goes.wait(30)
-        return PERFORM
-
-    fake = machine.fake(Fake(mood))
+    fake = machine.fake(Late())
+    fake.goes.set()
     fake.listener.setsockopt(socket.SOL_SOCKET, socket.SO_RCVBUF, 1 << 16)
     admin = admin_address()
     mcv = machine.mcv(one_pool([fake.text]), admin=admin, server_timeout=20000)
     with contextlib.ExitStack() as kept:
         clients = [kept.enter_context(mcv.client()) for _ in range(SETS)]
         clients[0].ask(b"get warm\r\n", b"END\r\n")
-        goes.clear()
+        fake.goes.clear()
         for number, client in enumerate(clients):
             client.send(stored(b"k%d" % number, b"v" * 1000000))
         wait_for(lambda: legs(admin, fake.text)[0] > SETS, "each leg is under way")
         wait_for(lambda: fake.requests[1:], "the server has the first set")
         fake.drop()
-        goes.set()
+        fake.goes.set()
         answers = [client.line() for client in clients]
     seen = [key for _, key in fake.requests]
     expect({answer for answer in answers} - {FAILED, b"STORED\r\n"}, set(), "other answers")

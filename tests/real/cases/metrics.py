@@ -2,13 +2,12 @@
 import contextlib
 import http.client
 import subprocess
-import threading
 
 from cases.crowds import TOO_MANY
 from cases.flights import FLIGHTS
-from cases.drains import admin_address, deletes_asynchronously, spool_two, with_room_for_two
-from cases.servers import FAILED
-from fakes import DROP, PERFORM, SILENCE, Fake
+from cases.drains import admin_address, deletes_asynchronously
+from cases.servers import FAILED, lift_limit, spool_two, with_room_for_two
+from fakes import DROP, PERFORM, SILENCE, Fake, Late, moody
 from parts import LIMIT, address_of, case, expect, free_port, index_of, one_pool, stored, wait_for
 
 TYPE = "text/plain; version=0.0.4; charset=utf-8"
@@ -146,9 +145,9 @@ def calls_are_counted_by_what_they_ask_and_get(machine):
 @case()
 def a_call_to_a_server_that_hangs_is_counted(machine):
     """Calls are counted as they are asked, and their replies as they come."""
-    admin, mood = admin_address(), [SILENCE]
-    server = machine.fake(Fake(lambda: mood[0]))
-    mcv = machine.mcv(one_pool([server.text]), admin=admin)
+    admin = admin_address()
+    mood, server, mcv = moody(machine, admin=admin)
+    mood[0] = SILENCE
     with mcv.client() as client, mcv.client() as other:
         client.send(b"get a b c\r\n")
         other.send(b"delete d\r\n")
@@ -237,13 +236,7 @@ def asked_until_busy(client, keys):
 @case(240)
 def a_chapter_that_is_full_is_said_and_that_the_next_begins(machine):
     """A get whose server doesn't answer keeps the chapter from its end, until its 1,000,000 entries are used, three for each get."""
-    go = threading.Event()
-
-    def mood():
-        go.wait(240)
-        return PERFORM
-
-    late, other = machine.fake(Fake(mood)), machine.servers(1)[0]
+    late, other = machine.fake(Late(most=240)), machine.servers(1)[0]
     keys = [key for key in (b"k%d" % n for n in range(3000)) if index_of(key, 2) == 1][:1000]
     held = next(key for key in (b"h%d" % n for n in range(100)) if index_of(key, 2) == 0)
     mcv = machine.mcv(one_pool([late.text, other]), server_timeout=200000)
@@ -254,7 +247,7 @@ def a_chapter_that_is_full_is_said_and_that_the_next_begins(machine):
         expect(mcv.error_text(), b"mcv: the chapter is full: 1 refused\n")
         client.ask(b"get a b c\r\n" * 2, b"SERVER_ERROR busy\r\n" * 2)
         expect(mcv.error_text(), b"mcv: the chapter is full: 1 refused\n", "it is said once")
-        go.set()
+        late.goes.set()
         expect(first.line(), b"END\r\n")
         for _ in range(2):
             client.ask(b"get " + keys[0] + b"\r\n", b"END\r\n")
@@ -285,10 +278,10 @@ def clients_are_counted(machine):
 @case()
 def a_spool_that_refuses_is_shown(machine):
     admin = admin_address()
-    mcv = with_room_for_two(machine, machine.path("mcv.spool"), admin)
+    mcv = with_room_for_two(machine, admin=admin)
     with mcv.client() as client:
         spool_two(client)
         client.ask(b"delete c\r\n", FAILED)
         wait_for(lambda: shown(admin)["mcv_spool_refusing"] == 1, "the spool is said to refuse")
-        machine.start(["prlimit", "--pid", str(mcv.process.pid), "--fsize=unlimited:"]).wait()
+        lift_limit(machine, mcv)
         wait_for(lambda: shown(admin)["mcv_spool_refusing"] == 0, "the spool takes records again")

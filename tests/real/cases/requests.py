@@ -3,6 +3,7 @@ from parts import answer, case, deletes_to_all, expect, Failed, index_of, one_po
 
 LONGEST_KEY = b"k" * 250
 BIGGEST = 1048576
+OUT_OF_MEMORY = b"SERVER_ERROR out of memory\r\n"
 
 # Each is sent over a connection of its own, in this order, to memcached and to mcv.
 AS_MEMCACHED = [
@@ -82,6 +83,10 @@ AS_THE_PAGE_SAYS = [
 ]
 
 
+def get_of(keys):
+    return b"get " + b" ".join(keys) + b"\r\n"
+
+
 def compare(text, rows):
     for sent, wanted in rows:
         expect(answer(text, sent), wanted, "the answer to " + shown(sent))
@@ -132,6 +137,28 @@ def a_get_of_a_thousand_keys(machine):
         for _ in range(3):
             client.ask(b"get " + b" ".join(keys) + b"\r\n", values + b"END\r\n")
         client.ask(b"get " + b" ".join(b"not-" + key for key in keys) + b"\r\n", b"END\r\n")
+
+
+@case()
+def an_answer_past_its_limit_is_refused_and_others_are_whole(machine):
+    """Values of 10,000 bytes, of which an answer may have 100,000: twelve are too much for one, also where they are of two hubs, six of
+    each."""
+    keys, value = [b"k%d" % n for n in range(20)], b"x" * 10000
+    five = b"".join(b"VALUE %s 0 %d\r\n%s\r\n" % (key, len(value), value) for key in keys[:5]) + b"END\r\n"
+    expect(sorted(index_of(key, 2) for key in keys[:12]), [0] * 6 + [1] * 6, "hubs of twelve keys")
+    for hubs in (1, 2):
+        spool = machine.path("spool.%d" % hubs)
+        mcv = machine.mcv(one_pool(machine.servers(2)), spool=spool, hubs=hubs, answer_bytes=100_000)
+        with mcv.client() as client:
+            for key in keys:
+                client.ask(stored(key, value), b"STORED\r\n")
+            for _ in range(3):
+                client.ask(get_of(keys), OUT_OF_MEMORY)
+                client.ask(get_of(keys[:5]), five)
+                client.ask(get_of(keys[:12]), OUT_OF_MEMORY)
+                client.ask(get_of(b"not-" + key for key in keys), b"END\r\n")
+            client.send(get_of(keys) + get_of(keys[:5]) + b"quit\r\n")
+            expect(client.rest(), OUT_OF_MEMORY + five, "all that is answered to what was sent together")
 
 
 @case()

@@ -5,7 +5,7 @@ import socket
 import threading
 import time
 
-from fakes import DROP, PERFORM, PERFORM_AND_DROP, REFUSE, SILENCE, Fake, Unaccepting
+from fakes import DROP, PERFORM, PERFORM_AND_DROP, REFUSE, SILENCE, Fake, Unaccepting, moody
 from parts import (Client, Failed, answer, case, deletes_to_all, expect, free_port, freeze, one_pool, pending, records, replayed,
                    stored, value_answer, wait_for)
 
@@ -236,9 +236,7 @@ def servers_that_one_request_marks_are_each_said(machine):
 @case()
 def a_server_that_is_marked_and_answers_is_asked_again_at_once(machine):
     """It breaks three connections in a row, and is well then: it is probed as soon as it is marked."""
-    mood = [PERFORM]
-    fake = machine.fake(Fake(lambda: mood[0]))
-    mcv = machine.mcv(one_pool([fake.text]), server_timeout=20000)
+    mood, _, mcv = moody(machine, server_timeout=20000)
     seconds = []
     with mcv.client() as client:
 
@@ -258,26 +256,33 @@ def a_server_that_is_marked_and_answers_is_asked_again_at_once(machine):
         raise Failed("a server that was marked and was well was asked again behind %s seconds" % ["%.3f" % took for took in seconds])
 
 
+def expect_half_a_second(number, took):
+    if not 0.4 < took < 5:
+        raise Failed("get %d took %.3f seconds" % (number, took))
+
+
+def spooled_until(machine, mcv, client, text, comes_back):
+    """The server of the keys from `hung` on, of this address, is marked, and its delete is in the spool until it comes back."""
+    spool = machine.path("mcv.spool")
+    wait_for(lambda: b"mcv: server " + text.encode() + b" is marked\n" in mcv.error_text(), "the mark")
+    client.ask(b"get hung\r\ndelete hung\r\n", FAILED + b"NOT_FOUND\r\n")
+    expect(pending(spool), [(text.encode(), b"hung")])
+    comes_back()
+    wait_for(lambda: not pending(spool), "the delete is sent again")
+
+
 @case()
 def a_server_that_hangs_fails_in_its_time(machine):
     (text, process), up = machine.memcached(), machine.servers(1)[0]
-    spool = machine.path("mcv.spool")
     mcv = machine.mcv(hung_beside(text, up), server_timeout=500)
     with mcv.client() as waits, mcv.client() as works:
         waits.ask(stored(b"hung", b"1") + b"get hung\r\n", b"STORED\r\n" + value_answer(b"hung", b"1"))
         freeze(process)
         for turn in range(3):
             # The first over the connection that was kept, which isn't sent once more; the others over new ones.
-            took = timed(waits, b"get hung\r\n", FAILED)
-            if not 0.4 < took < 5:
-                raise Failed("get %d took %.3f seconds" % (turn, took))
+            expect_half_a_second(turn, timed(waits, b"get hung\r\n", FAILED))
             works.ask(stored(b"k", b"%d" % turn) + b"get k\r\n", b"STORED\r\n" + value_answer(b"k", b"%d" % turn))
-        wait_for(lambda: b"mcv: server " + text.encode() + b" is marked\n" in mcv.error_text(), "the mark")
-        waits.ask(b"get hung\r\n", FAILED)
-        waits.ask(b"delete hung\r\n", b"NOT_FOUND\r\n")
-        expect(pending(spool), [(text.encode(), b"hung")])
-        process.send_signal(signal.SIGCONT)
-        wait_for(lambda: not pending(spool), "the delete is sent again")
+        spooled_until(machine, mcv, waits, text, lambda: process.send_signal(signal.SIGCONT))
 
         def back():
             waits.send(b"get hung\r\n")
@@ -290,7 +295,11 @@ def a_server_that_hangs_fails_in_its_time(machine):
 def a_server_that_takes_no_connection_fails_in_its_time(machine):
     """It is marked, its deletes go to the spool, and no other server waits for it. Once it takes connections it has its deletes."""
     shut, up = machine.fake(Unaccepting()), machine.servers(1)[0]
-    spool = machine.path("mcv.spool")
+
+    def opens():
+        expect(shut.requests, [], "requests")
+        shut.open()
+
     mcv = machine.mcv(hung_beside(shut.text, up), server_timeout=500)
     with mcv.client() as waits, mcv.client() as works:
         for turn in range(3):
@@ -299,24 +308,15 @@ def a_server_that_takes_no_connection_fails_in_its_time(machine):
             took = timed(works, stored(b"k", b"%d" % turn) + b"get k\r\n", b"STORED\r\n" + value_answer(b"k", b"%d" % turn))
             expect(took < 0.4, True, "what is asked of the server that is up took %.3f seconds" % took)
             expect(waits.line(), FAILED)
-            took = time.monotonic() - begun
-            if not 0.4 < took < 5:
-                raise Failed("get %d took %.3f seconds" % (turn, took))
-        wait_for(lambda: b"mcv: server " + shut.text.encode() + b" is marked\n" in mcv.error_text(), "the mark")
-        waits.ask(b"get hung\r\ndelete hung\r\n", FAILED + b"NOT_FOUND\r\n")
-        expect(pending(spool), [(shut.text.encode(), b"hung")])
-        expect(shut.requests, [], "requests")
-        shut.open()
-        wait_for(lambda: not pending(spool), "the delete is sent again")
+            expect_half_a_second(turn, time.monotonic() - begun)
+        spooled_until(machine, mcv, waits, shut.text, opens)
         expect(shut.performed, {b"hung"})
 
 
 @case()
 def a_servers_time_is_kept_whenever_it_is_asked(machine):
     """At any moment of a second, behind a while in which no leg was in flight. What it answers between keeps it from a mark."""
-    mood = [PERFORM]
-    fake = machine.fake(Fake(lambda: mood[0]))
-    mcv = machine.mcv(one_pool([fake.text]), server_timeout=200)
+    mood, _, mcv = moody(machine, server_timeout=200)
     seconds = []
     with mcv.client() as client:
         for turn in range(9):
@@ -352,7 +352,7 @@ def getting(mcv, count, slow, faults, most=10):
         faults.append(str(fault))
 
 
-@case(120)
+@case(120, stall=0.1)
 def gets_beside_a_server_that_hangs_are_quick(machine):
     """More than half of what a chapter holds, so that the next one begins meanwhile, while calls to the other server run."""
     (text, process), up = machine.memcached(), machine.servers(1)[0]
@@ -390,7 +390,7 @@ def a_chapter_that_waits_in_vain_costs_a_second_once(machine):
         works.ask(asked, b"END\r\n")
 
 
-@case(300)
+@case(300, stall=0.3)
 def half_a_million_gets_beside_a_server_that_hangs(machine):
     """More than the history of a chapter holds, so that calls wait for the next one, which waits for calls that run: for less
     than the second after which those that wait go on in this one. The server that is up keeps this time on a busy machine too."""
@@ -416,18 +416,30 @@ def half_a_million_gets_beside_a_server_that_hangs(machine):
     expect((faults, slow), ([], []), "gets of the server that is up")
 
 
-LIMITED = ["prlimit", "--fsize=1281:", "env", "--ignore-signal=XFSZ"]
+def with_room_for_two(machine, **how):
+    """A proxy with a server that is away, and a spool whose file can't grow past two records."""
+    before = ["prlimit", "--fsize=1281:", "env", "--ignore-signal=XFSZ"]
+    return machine.mcv(one_pool(["127.0.0.1:%d" % free_port()]), before=before, **how)
+
+
+def lift_limit(machine, mcv):
+    """The file may grow from now on."""
+    machine.start(["prlimit", "--pid", str(mcv.process.pid), "--fsize=unlimited:"]).wait()
+
+
+def spool_two(client):
+    """Two deletes go to the spool."""
+    client.ask(b"delete a\r\ndelete b\r\n", b"NOT_FOUND\r\nNOT_FOUND\r\n")
 
 
 @case()
 def a_spool_that_refuses_costs_an_answer_no_wait(machine):
     """Twelve clients delete keys of a server that is away, while the file can't grow past two records."""
-    text = "127.0.0.1:%d" % free_port()
     spool = machine.path("mcv.spool")
-    mcv = machine.mcv(one_pool([text]), before=LIMITED)
+    mcv = with_room_for_two(machine, spool=spool)
     with contextlib.ExitStack() as kept:
         clients = [kept.enter_context(mcv.client()) for _ in range(12)]
-        clients[0].ask(b"delete a\r\ndelete b\r\n", b"NOT_FOUND\r\nNOT_FOUND\r\n")
+        spool_two(clients[0])
         seconds = []
         for turn in range(5):
             begun = time.monotonic()
@@ -438,7 +450,7 @@ def a_spool_that_refuses_costs_an_answer_no_wait(machine):
             seconds.append(time.monotonic() - begun)
         if min(seconds) > 0.1 or max(seconds) > 5:
             raise Failed("twelve deletes took %s seconds" % ["%.3f" % took for took in seconds])
-        machine.start(["prlimit", "--pid", str(mcv.process.pid), "--fsize=unlimited:"]).wait()
+        lift_limit(machine, mcv)
         wait_for(lambda: len(pending(spool)) == 62, "each delete that was refused is written")
         clients[0].ask(b"delete c\r\n", b"NOT_FOUND\r\n")
 
@@ -446,14 +458,13 @@ def a_spool_that_refuses_costs_an_answer_no_wait(machine):
 @case()
 def the_spool_refuses_and_takes_it_later(machine):
     """A file that can't grow past two records, until the limit is taken away."""
-    text = "127.0.0.1:%d" % free_port()
     spool = machine.path("mcv.spool")
-    mcv = machine.mcv(one_pool([text]), before=LIMITED)
+    mcv = with_room_for_two(machine, spool=spool)
     with mcv.client() as client:
-        client.ask(b"delete a\r\ndelete b\r\n", b"NOT_FOUND\r\nNOT_FOUND\r\n")
+        spool_two(client)
         client.ask(b"delete c\r\n", FAILED)
         expect([rest for _, rest in pending(spool)], [b"a", b"b"])
-        machine.start(["prlimit", "--pid", str(mcv.process.pid), "--fsize=unlimited:"]).wait()
+        lift_limit(machine, mcv)
         wait_for(lambda: [rest for _, rest in pending(spool)] == [b"a", b"b", b"c"], "the delete that was refused is written")
         client.ask(b"delete d\r\n", b"NOT_FOUND\r\n")
         expect([rest for _, rest in pending(spool)], [b"a", b"b", b"c", b"d"])

@@ -108,6 +108,7 @@ def a_bad_command_line(machine):
                   run + listen + spool + ["--window", "-1"], run + listen + spool + ["--window", "4294967296"],
                   run + listen + spool + ["--server-timeout", "0"], run + listen + spool + ["--server-timeout", "3600001"],
                   run + listen + spool + ["--max-clients", "0"], run + listen + spool + ["--max-clients", "1000001"],
+                  run + listen + spool + ["--answer-bytes", "0"], run + listen + spool + ["--answer-bytes", "1099511627777"],
                   run + listen + spool + ["--client-timeout", "0"], run + listen + spool + ["--client-timeout", "1s"],
                   run + listen + spool + ["more"], run + listen + listen + spool):
         expect(machine.refused(one_pool(["127.0.0.1:1"]), words=words), BAD_LINE, " ".join(words[1:]))

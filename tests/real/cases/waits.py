@@ -1,12 +1,11 @@
 """While all that there is waits for somebody else, the program takes no time of a processor."""
 import contextlib
 import socket
-import threading
 import time
 
 from cases.drains import admin_address, asked
-from cases.servers import FAILED, LIMITED
-from fakes import PERFORM, SILENCE, Fake
+from cases.servers import FAILED, spool_two, with_room_for_two
+from fakes import SILENCE, Fake, Late
 from parts import Failed, case, expect, free_port, one_pool, pending, stored, wait_for
 
 # The seconds that are watched, and the most of a processor's that the program may take of them.
@@ -35,13 +34,8 @@ def by_prefix(servers):
 @case(240)
 def clients_and_servers_that_wait_cost_no_time(machine):
     """Each state comes to those before it."""
-    goes = threading.Event()
-
-    def mood():
-        goes.wait(240)
-        return PERFORM
-
-    silent, stuck, up = machine.fake(Fake(lambda: SILENCE)), machine.fake(Fake(mood)), machine.fake(Fake(values=lambda _: b"x" * 1000000))
+    silent, stuck = machine.fake(Fake(lambda: SILENCE)), machine.fake(Late(most=240))
+    up = machine.fake(Fake(values=lambda _: b"x" * 1000000))
     stuck.listener.setsockopt(socket.SOL_SOCKET, socket.SO_RCVBUF, 1 << 16)
     away = "127.0.0.1:%d" % free_port()
     admin = admin_address()
@@ -51,42 +45,39 @@ def clients_and_servers_that_wait_cost_no_time(machine):
         def client():
             return kept.enter_context(mcv.client())
 
-        try:
-            for number in range(20):
-                client().ask(b"delete up%d\r\n" % number, b"DELETED\r\n")
-            client().send(b"get up")
-            expect_rest(mcv, "idle clients, and one with half a request")
-            half = client()
-            half.send(b"get silent\r\n")
-            half.socket.shutdown(socket.SHUT_WR)
-            wait_for(lambda: silent.requests, "the server is asked")
-            expect_rest(mcv, "a client that sends no more, and waits for an answer")
-            deaf, closed = client(), client()
-            for one in (deaf, closed):
-                one.send(b"get up\r\n" * 50)
-            closed.socket.shutdown(socket.SHUT_WR)
-            expect_rest(mcv, "clients that take nothing, one of which sends no more")
-            for number in range(12):
-                client().send(stored(b"stuck%d" % number, b"v" * 1000000))
-            wait_for(lambda: stuck.requests, "the server is asked")
-            expect_rest(mcv, "a server that takes nothing")
-            for _ in range(4):
-                client().ask(b"get away\r\n", FAILED)
-            client().ask(b"delete away\r\n", b"NOT_FOUND\r\n")
-            expect_rest(mcv, "a server that is marked, and a delete in the spool for it")
-            expect(asked(admin, "POST", "/drain?seconds=100"), (200, b"draining\n"))
-            expect_rest(mcv, "a drain")
-        finally:
-            goes.set()
+        for number in range(20):
+            client().ask(b"delete up%d\r\n" % number, b"DELETED\r\n")
+        client().send(b"get up")
+        expect_rest(mcv, "idle clients, and one with half a request")
+        half = client()
+        half.send(b"get silent\r\n")
+        half.socket.shutdown(socket.SHUT_WR)
+        wait_for(lambda: silent.requests, "the server is asked")
+        expect_rest(mcv, "a client that sends no more, and waits for an answer")
+        deaf, closed = client(), client()
+        for one in (deaf, closed):
+            one.send(b"get up\r\n" * 50)
+        closed.socket.shutdown(socket.SHUT_WR)
+        expect_rest(mcv, "clients that take nothing, one of which sends no more")
+        for number in range(12):
+            client().send(stored(b"stuck%d" % number, b"v" * 1000000))
+        wait_for(lambda: stuck.requests, "the server is asked")
+        expect_rest(mcv, "a server that takes nothing")
+        for _ in range(4):
+            client().ask(b"get away\r\n", FAILED)
+        client().ask(b"delete away\r\n", b"NOT_FOUND\r\n")
+        expect_rest(mcv, "a server that is marked, and a delete in the spool for it")
+        expect(asked(admin, "POST", "/drain?seconds=100"), (200, b"draining\n"))
+        expect_rest(mcv, "a drain")
 
 
 @case(120)
 def a_spool_that_refuses_costs_no_time(machine):
     """With two deletes that it has and ten that wait for it."""
     spool = machine.path("mcv.spool")
-    mcv = machine.mcv(one_pool(["127.0.0.1:%d" % free_port()]), before=LIMITED, spool=spool)
+    mcv = with_room_for_two(machine, spool=spool)
     with mcv.client() as client:
-        client.ask(b"delete a\r\ndelete b\r\n", b"NOT_FOUND\r\nNOT_FOUND\r\n")
+        spool_two(client)
         for number in range(10):
             client.ask(b"delete k%d\r\n" % number, FAILED)
         expect(len(pending(spool)), 2, "records")

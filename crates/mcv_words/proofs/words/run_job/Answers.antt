@@ -30,5 +30,6 @@ returns-clause-job c =
         server_timeout = c.in_ok-server_timeout.ensures.number;
         client_timeout = c.in_ok-client_timeout.ensures.number;
         max_clients = c.in_ok-max_clients.ensures.number;
+        answer_bytes = rw c.in-Some-4.is at c.in_ok-answer_bytes.ensures.number;
       };
     }

@@ -26,9 +26,9 @@ returns-in-Some-clause-asked g c =
     let lower = c.in-Some.ensures.there in
     let most = c.one_hub.ensures.most in
     let request = request_value (arc_value c.args.request) in
-    let old = desks_view d.choice.now d.mixed d.desks in
-    let new = desks_view d.choice.now d.mixed c.ask_at.new.self in
-    subst (λ (v : DesksView). OnOk c.ask_at.result (IsOneMore v new c.args.number request)) c.self.view_is (asked_ok old new refl (λ place. refl) c.in-Some.hub (omega (arith, lower, most)) c.args.number request c.ask_at.result c.ask_at.ensures)
+    let old = desks_view d.choice.now d.most d.mixed d.desks in
+    let new = desks_view d.choice.now d.most d.mixed c.ask_at.new.self in
+    subst (λ (v : DesksView). OnOk c.ask_at.result (IsOneMore v new c.args.number request)) c.self.view_is (asked_ok old new refl refl (λ place. refl) c.in-Some.hub (omega (arith, lower, most)) c.args.number request c.ask_at.result c.ask_at.ensures)
 
 pub returns-in-Some-clause-err : goal.returns-in-Some-clause-err
 returns-in-Some-clause-err g c =
@@ -36,6 +36,6 @@ returns-in-Some-clause-err g c =
     let lower = c.in-Some.ensures.there in
     let most = c.one_hub.ensures.most in
     let request = request_value (arc_value c.args.request) in
-    let old = desks_view d.choice.now d.mixed d.desks in
-    let new = desks_view d.choice.now d.mixed c.ask_at.new.self in
-    subst (λ (v : DesksView). OnErr c.ask_at.result (AreSameRequests v new)) c.self.view_is (asked_err old new refl (λ place. refl) c.in-Some.hub (omega (arith, lower, most)) c.args.number request c.ask_at.result c.ask_at.ensures)
+    let old = desks_view d.choice.now d.most d.mixed d.desks in
+    let new = desks_view d.choice.now d.most d.mixed c.ask_at.new.self in
+    subst (λ (v : DesksView). OnErr c.ask_at.result (AreSameRequests v new)) c.self.view_is (asked_err old new refl refl (λ place. refl) c.in-Some.hub (omega (arith, lower, most)) c.args.number request c.ask_at.result c.ask_at.ensures)

@@ -39,22 +39,22 @@ invariant_of-self-in-Err g c =
 pub returns-in_default : goal.returns-in_default
 returns-in_default g c =
     let d = c.self.inside in
-    let old = desks_view d.choice.now d.mixed d.desks in
-    let new = desks_view d.choice.now c.next_key.new.mixed d.desks in
-    subst (λ (v : DesksView). AreInPlace v new) c.self.view_is (all_same old new refl c.next_key.ensures.same (λ hub number. refl))
+    let old = desks_view d.choice.now d.most d.mixed d.desks in
+    let new = desks_view d.choice.now d.most c.next_key.new.mixed d.desks in
+    subst (λ (v : DesksView). AreInPlace v new) c.self.view_is (all_same old new refl refl c.next_key.ensures.same (λ hub number. refl))
 
 pub returns-in-Ok : goal.returns-in-Ok
 returns-in-Ok g c =
     let d = c.self.inside in
     let next = c.in-Some.next in
-    let old = desks_view d.choice.now d.mixed d.desks in
-    let new = desks_view d.choice.now c.next_key.new.mixed c.ask_at.new.self in
-    subst (λ (v : DesksView). AreInPlace v new) c.self.view_is (key_asked old new refl c.next_key.ensures.same next.hub c.ask_at.result c.args.place next.serial next.key (request_value (arc_value next.alone)) c.ask_at.ensures)
+    let old = desks_view d.choice.now d.most d.mixed d.desks in
+    let new = desks_view d.choice.now d.most c.next_key.new.mixed c.ask_at.new.self in
+    subst (λ (v : DesksView). AreInPlace v new) c.self.view_is (key_asked old new refl refl c.next_key.ensures.same next.hub c.ask_at.result c.args.place next.serial next.key (request_value (arc_value next.alone)) c.ask_at.ensures)
 
 pub returns-in-Err : goal.returns-in-Err
 returns-in-Err g c =
     let d = c.self.inside in
     let next = c.in-Some.next in
-    let old = desks_view d.choice.now d.mixed d.desks in
-    let new = desks_view d.choice.now c.refuse_at.new.mixed c.ask_at.new.self in
-    subst (λ (v : DesksView). AreInPlace v new) c.self.view_is (key_asked old new refl (λ slot. c.refuse_at.ensures slot ∙ c.next_key.ensures.same slot) next.hub c.ask_at.result c.args.place next.serial next.key (request_value (arc_value next.alone)) c.ask_at.ensures)
+    let old = desks_view d.choice.now d.most d.mixed d.desks in
+    let new = desks_view d.choice.now d.most c.refuse_at.new.mixed c.ask_at.new.self in
+    subst (λ (v : DesksView). AreInPlace v new) c.self.view_is (key_asked old new refl refl (λ slot. c.refuse_at.ensures slot ∙ c.next_key.ensures.same slot) next.hub c.ask_at.result c.args.place next.serial next.key (request_value (arc_value next.alone)) c.ask_at.ensures)

@@ -40,16 +40,16 @@ returns-in_err-mixed-clause-err g c = in_any_case c.from_residual.result (same_o
 pub returns-in_err-place-clause-err : goal.returns-in_err-place-clause-err
 returns-in_err-place-clause-err g c =
     let d = c.self.inside in
-    let old = desks_view d.choice.now d.mixed d.desks in
-    let new = desks_view d.choice.now c.insert.new.self d.desks in
+    let old = desks_view d.choice.now d.most d.mixed d.desks in
+    let new = desks_view d.choice.now d.most c.insert.new.self d.desks in
     let same = slots_same d.mixed c.insert.new.self (ap (λ (s : Slab MixedView). s.slots) c.in_err-place.ensures.err) in
-    in_any_case c.from_residual-in_err-place.result (subst (λ (v : DesksView). AreSameRequests v new) c.self.view_is (in_place_open old new (all_same old new refl same (λ hub number. refl))))
+    in_any_case c.from_residual-in_err-place.result (subst (λ (v : DesksView). AreSameRequests v new) c.self.view_is (in_place_open old new (all_same old new refl refl same (λ hub number. refl))))
 
 pub returns-clause-asked : goal.returns-clause-asked
 returns-clause-asked g c =
     let d = c.self.inside in
-    let old = desks_view d.choice.now d.mixed d.desks in
-    let mid = desks_view d.choice.now c.insert.new.self d.desks in
+    let old = desks_view d.choice.now d.most d.mixed d.desks in
+    let mid = desks_view d.choice.now d.most c.insert.new.self d.desks in
     let mixed = c.in_ok-mixed.mixed in
     let place = c.in_ok-place.place in
     let is = c.in_ok-mixed.ensures in
@@ -59,13 +59,13 @@ returns-clause-asked g c =
     let none = none_there (AreInPlace c.ask_keys.new.self new) c.take_done.result (sym c.is_some.ensures ∙ c.if-is_some.false) c.take_done.ensures.none in
     let now = in_place_on mid c.ask_keys.new.self new c.ask_keys.ensures none in
     subst (λ (v : DesksView). IsOneMore v new c.args.number request) c.self.view_is
-    (several_come old mid refl place c.args.number mixed.request (ap (option_map (λ (m : MixedView). m.request)) c.in_ok-place.ensures.was_vacant) (is_there c.insert.new.self place mixed updates.changed) (one_came d.mixed c.insert.new.self place mixed updates) refl new request (ap (λ (m : MixedView). m.request.number) is) (ap (λ (m : MixedView). request_value m.request.asked) is) now)
+    (several_come old mid refl refl place c.args.number mixed.request (ap (option_map (λ (m : MixedView). m.request)) c.in_ok-place.ensures.was_vacant) (is_there c.insert.new.self place mixed updates.changed) (one_came d.mixed c.insert.new.self place mixed updates) refl new request (ap (λ (m : MixedView). m.request.number) is) (ap (λ (m : MixedView). request_value m.request.asked) is) now)
 
 pub returns-then-is_some-clause-err : goal.returns-then-is_some-clause-err
 returns-then-is_some-clause-err g c =
     let d = c.self.inside in
-    let old = desks_view d.choice.now d.mixed d.desks in
-    let mid = desks_view d.choice.now c.insert.new.self d.desks in
+    let old = desks_view d.choice.now d.most d.mixed d.desks in
+    let mid = desks_view d.choice.now d.most c.insert.new.self d.desks in
     let mixed = c.in_ok-mixed.mixed in
     let place = c.in_ok-place.place in
     let updates = c.in_ok-place.ensures.updates in
@@ -74,4 +74,4 @@ returns-then-is_some-clause-err g c =
     let P : Answer → Type 0 = λ a. (number : ℕ) × (a.asker ≡ Session number) × IsTakenAway now new place number (request_value (arc_value a.request)) in
     one_there P (AreSameRequests c.args.self.now new) c.take_done.result (sym c.is_some.ensures ∙ c.if-is_some.true) c.take_done.ensures.taken (λ a taken.
     subst (λ (v : DesksView). AreSameRequests v new) c.self.view_is
-    (several_gone old mid refl place c.args.number mixed.request (ap (option_map (λ (m : MixedView). m.request)) c.in_ok-place.ensures.was_vacant) (is_there c.insert.new.self place mixed updates.changed) (one_came d.mixed c.insert.new.self place mixed updates) refl now new taken.0 (request_value (arc_value a.request)) c.ask_keys.ensures taken.2))
+    (several_gone old mid refl refl place c.args.number mixed.request (ap (option_map (λ (m : MixedView). m.request)) c.in_ok-place.ensures.was_vacant) (is_there c.insert.new.self place mixed updates.changed) (one_came d.mixed c.insert.new.self place mixed updates) refl now new taken.0 (request_value (arc_value a.request)) c.ask_keys.ensures taken.2))

@@ -8,4 +8,4 @@ pub invariant_of-result : goal.invariant_of-result
 invariant_of-result g c = none_asked c.args.hubs.now.choice (mixed_at c.new-mixed.result) (questions_at c.in_ok-desks.desks) (no_slots c.new-mixed.result c.new-mixed.ensures.empty) c.in_ok-desks.ensures
 
 pub returns-clause-none : goal.returns-clause-none
-returns-clause-none g c = none_is_open (desks_view c.args.hubs.now.choice c.new-mixed.result c.in_ok-desks.desks) (no_slots c.new-mixed.result c.new-mixed.ensures.empty) c.in_ok-desks.ensures
+returns-clause-none g c = none_is_open (desks_view c.args.hubs.now.choice c.args.most c.new-mixed.result c.in_ok-desks.desks) (no_slots c.new-mixed.result c.new-mixed.ensures.empty) c.in_ok-desks.ensures

@@ -31,22 +31,22 @@ invariant_of-self-in-Session g c =
 pub returns-in_default-clause-none : goal.returns-in_default-clause-none
 returns-in_default-clause-none g c =
     let d = c.self.inside in
-    let old = desks_view d.choice.now d.mixed d.desks in
-    let new = desks_view d.choice.now d.mixed c.answer_at.new.self in
+    let old = desks_view d.choice.now d.most d.mixed d.desks in
+    let new = desks_view d.choice.now d.most d.mixed c.answer_at.new.self in
     let closed = c.in_default.ensures.closed in
-    subst (λ (v : DesksView). AreSameRequests v new) c.self.view_is (in_place_open old new (one_same old new refl (λ place. refl) c.args.hub (record { here = closed.here.1; others = closed.others })))
+    subst (λ (v : DesksView). AreSameRequests v new) c.self.view_is (in_place_open old new (one_same old new refl refl (λ place. refl) c.args.hub (record { here = closed.here.1; others = closed.others })))
 
 pub returns-in-Session-clause-answered : goal.returns-in-Session-clause-answered
 returns-in-Session-clause-answered g c =
     let d = c.self.inside in
     let number = c.in-Session.field-0 in
     let request = request_value (arc_value c.in-Some.answer.request) in
-    let old = desks_view d.choice.now d.mixed d.desks in
-    let new = desks_view d.choice.now d.mixed c.answer_at.new.self in
+    let old = desks_view d.choice.now d.most d.mixed d.desks in
+    let new = desks_view d.choice.now d.most d.mixed c.answer_at.new.self in
     let closed = c.in-Some.ensures.closed in
     let its : AtOne (λ (o n : Slab QuestionView). Closes o n (Session number) request) c.args.hub (questions_at d.desks) (questions_at c.answer_at.new.self) =
     record { here = subst (λ (a : Asker). Closes (questions_at d.desks c.args.hub) (questions_at c.answer_at.new.self c.args.hub) a request) c.in-Session.is closed.here.0; others = closed.others } in
-    (number, c.in-Session.is, subst (λ (v : DesksView). IsOneLess v new number request) c.self.view_is (one_goes old new refl (λ place. refl) c.args.hub c.requires number request its))
+    (number, c.in-Session.is, subst (λ (v : DesksView). IsOneLess v new number request) c.self.view_is (one_goes old new refl refl (λ place. refl) c.args.hub c.requires number request its))
 
 pub returns-in-Session-clause-answer : goal.returns-in-Session-clause-answer
 returns-in-Session-clause-answer g c =
@@ -78,14 +78,14 @@ pub returns-in-Key-clause-answered : goal.returns-in-Key-clause-answered
 returns-in-Key-clause-answered g c =
     let d = c.self.inside in
     let request = request_value (arc_value c.in-Some.answer.request) in
-    let old = desks_view d.choice.now d.mixed d.desks in
-    let mid = desks_view d.choice.now c.put_at.new.mixed c.answer_at.new.self in
+    let old = desks_view d.choice.now d.most d.mixed d.desks in
+    let mid = desks_view d.choice.now d.most c.put_at.new.mixed c.answer_at.new.self in
     let now = c.ask_keys.new.self in
     let new = c.take_done.new.self in
     let closed = c.in-Some.ensures.closed in
     let its : AtOne (λ (o n : Slab QuestionView). Closes o n (Key c.in-Key.request c.in-Key.serial c.in-Key.key) request) c.args.hub (questions_at d.desks) (questions_at c.answer_at.new.self) =
     record { here = subst (λ (a : Asker). Closes (questions_at d.desks c.args.hub) (questions_at c.answer_at.new.self c.args.hub) a request) c.in-Key.is closed.here.0; others = closed.others } in
-    let same = in_place_on old mid now (key_answered old mid refl c.put_at.ensures c.args.hub c.in-Key.request c.in-Key.serial c.in-Key.key request its) c.ask_keys.ensures in
+    let same = in_place_on old mid now (key_answered old mid refl refl c.put_at.ensures c.args.hub c.in-Key.request c.in-Key.serial c.in-Key.key request its) c.ask_keys.ensures in
     let Q : DesksView → Answer → Type 0 = λ v a. (number : ℕ) × (a.asker ≡ Session number) × IsOneLess v new number (request_value (arc_value a.request)) in
     let less = if_some _ (Q old) c.take_done.result (λ a h. (h.0, h.1, less_behind old now new h.0 (request_value (arc_value a.request)) (in_place_open old now same) (taken_is_less now new c.in-Key.request h.0 (request_value (arc_value a.request)) h.2))) c.take_done.ensures.taken in
     if_whole (Q c.args.self.now) c.take_done.result c.joined_of.result c.joined_of.ensures (subst (λ (v : DesksView). IfSome c.take_done.result (Q v)) c.self.view_is less)
@@ -94,14 +94,14 @@ pub returns-in-Key-clause-none : goal.returns-in-Key-clause-none
 returns-in-Key-clause-none g c =
     let d = c.self.inside in
     let request = request_value (arc_value c.in-Some.answer.request) in
-    let old = desks_view d.choice.now d.mixed d.desks in
-    let mid = desks_view d.choice.now c.put_at.new.mixed c.answer_at.new.self in
+    let old = desks_view d.choice.now d.most d.mixed d.desks in
+    let mid = desks_view d.choice.now d.most c.put_at.new.mixed c.answer_at.new.self in
     let now = c.ask_keys.new.self in
     let new = c.take_done.new.self in
     let closed = c.in-Some.ensures.closed in
     let its : AtOne (λ (o n : Slab QuestionView). Closes o n (Key c.in-Key.request c.in-Key.serial c.in-Key.key) request) c.args.hub (questions_at d.desks) (questions_at c.answer_at.new.self) =
     record { here = subst (λ (a : Asker). Closes (questions_at d.desks c.args.hub) (questions_at c.answer_at.new.self c.args.hub) a request) c.in-Key.is closed.here.0; others = closed.others } in
-    let same = in_place_on old mid now (key_answered old mid refl c.put_at.ensures c.args.hub c.in-Key.request c.in-Key.serial c.in-Key.key request its) c.ask_keys.ensures in
+    let same = in_place_on old mid now (key_answered old mid refl refl c.put_at.ensures c.args.hub c.in-Key.request c.in-Key.serial c.in-Key.key request its) c.ask_keys.ensures in
     let none = if_none (AreInPlace now new) (AreSameRequests c.args.self.now new) c.take_done.result (λ h. subst (λ (v : DesksView). AreSameRequests v new) c.self.view_is (in_place_open old new (in_place_on old now new same h))) c.take_done.ensures.none in
     if_not_whole (AreSameRequests c.args.self.now new) c.take_done.result c.joined_of.result c.joined_of.ensures none
 

@@ -18,18 +18,18 @@ invariant_of-self g c = let d = c.self.inside in some_left d.choice.now d.next (
 pub returns-clause-taken : goal.returns-clause-taken
 returns-clause-taken g c =
     let d = c.self.inside in
-    let old = desks_view d.choice.now d.mixed d.desks in
-    let new = desks_view d.choice.now c.take_done.new.mixed d.desks in
+    let old = desks_view d.choice.now d.most d.mixed d.desks in
+    let new = desks_view d.choice.now d.most c.take_done.new.mixed d.desks in
     let place = c.args.place in
     subst (λ (v : DesksView). IfSome c.take_done.result (λ a. (number : ℕ) × (a.asker ≡ Session number) × IsTakenAway v new place number (request_value (arc_value a.request)))) c.self.view_is
-    (taken_away g.F.HubNames.opened_of old new place refl refl c.take_done.result c.take_done.ensures.answer c.take_done.ensures.gone c.take_done.ensures.others)
+    (taken_away g.F.HubNames.opened_of old new place refl refl refl c.take_done.result c.take_done.ensures.answer c.take_done.ensures.gone c.take_done.ensures.others)
 
 pub returns-clause-none : goal.returns-clause-none
 returns-clause-none g c =
     let d = c.self.inside in
-    let old = desks_view d.choice.now d.mixed d.desks in
-    let new = desks_view d.choice.now c.take_done.new.mixed d.desks in
-    subst (λ (v : DesksView). IfNone c.take_done.result (AreInPlace v new)) c.self.view_is (if_none (AreSameMixed d.mixed c.take_done.new.mixed) (AreInPlace old new) c.take_done.result (λ same. all_same old new refl same (λ hub number. refl)) c.take_done.ensures.none)
+    let old = desks_view d.choice.now d.most d.mixed d.desks in
+    let new = desks_view d.choice.now d.most c.take_done.new.mixed d.desks in
+    subst (λ (v : DesksView). IfNone c.take_done.result (AreInPlace v new)) c.self.view_is (if_none (AreSameMixed d.mixed c.take_done.new.mixed) (AreInPlace old new) c.take_done.result (λ same. all_same old new refl refl same (λ hub number. refl)) c.take_done.ensures.none)
 
 pub returns-clause-answer : goal.returns-clause-answer
 returns-clause-answer g c =

@@ -11,6 +11,6 @@ invariant_of-self g c = let d = c.self.inside in desks_turned d.choice.now d.nex
 pub returns : goal.returns
 returns g c =
     let d = c.self.inside in
-    let old = desks_view d.choice.now d.mixed d.desks in
-    let new = desks_view d.choice.now d.mixed c.turn.new.self in
-    subst (λ (v : DesksView). AreSameRequests v new) c.self.view_is (in_place_open old new (all_same old new refl (λ place. refl) c.turn.ensures))
+    let old = desks_view d.choice.now d.most d.mixed d.desks in
+    let new = desks_view d.choice.now d.most d.mixed c.turn.new.self in
+    subst (λ (v : DesksView). AreSameRequests v new) c.self.view_is (in_place_open old new (all_same old new refl refl (λ place. refl) c.turn.ensures))

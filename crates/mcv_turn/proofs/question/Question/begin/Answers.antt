@@ -22,6 +22,9 @@ returns-in-Some-clause-run g c = nothing c.args.guard.now
 pub returns-then-to-len-clause-run : goal.returns-then-to-len-clause-run
 returns-then-to-len-clause-run g c = nothing c.args.guard.now
 
+pub returns-then-not-is_room_left-clause-run : goal.returns-then-not-is_room_left-clause-run
+returns-then-not-is_room_left-clause-run g c = nothing c.args.guard.now
+
 pub invariant_of-self : goal.invariant_of-self
 invariant_of-self g c =
     let start = g.B.HubLedger.opened in
