@@ -1,6 +1,6 @@
 //! The history of a chapter: its entries, and what is counted of them.
 
-ghost use Rattle.std.specs.Prelude.{◌≡◌, ◌+◌, ◌<◌, ◌≤◌, ◌⊎◌, [], ◌∷◌, ◌++◌, IfOk, OnOk, OnErr, vec_len, vec_capacity, count_by};
+ghost use Rattle.std.specs.Prelude.{◌≡◌, ◌+◌, ◌-◌, ◌<◌, ◌≤◌, ◌⊎◌, [], ◌∷◌, ◌++◌, IfOk, OnOk, OnErr, vec_len, vec_capacity, count_by, take};
 ghost use Rattle.mcv_hub.specs.History.{answer_change, answer_era, entries_in, era_entry, is_began, is_taken, leg_entry, with_entry};
 ghost use Rattle.mcv_hub.specs.Weights.{bytes_of};
 
@@ -24,7 +24,7 @@ pub(crate) struct History {
 }
 
 /// Entries of a chapter that has ended. To drop them takes a while where they are many, so that is left to who got them, for
-/// when the lock is let go.
+/// when the lock is let go, and can be done in pieces.
 #[derive(Drop)]
 pub struct Past {
     entries: Vec<Entry>,
@@ -35,6 +35,16 @@ impl Past {
     pub fn len(&self) -> usize
         ensures { result ≡ vec_len self.now.entries }
     {
+        self.entries.len()
+    }
+
+    /// Drops so many of them, or all where there are no more. How many are left.
+    pub fn shorten(&mut self, count: usize) -> usize
+        ensures items { self.new.entries.items ≡ take (vec_len self.old.entries - count) self.old.entries.items }
+        ensures left { result ≡ vec_len self.old.entries - count }
+    {
+        self.entries
+            .truncate(self.entries.len().saturating_sub(count));
         self.entries.len()
     }
 }

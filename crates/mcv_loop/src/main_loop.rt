@@ -70,6 +70,8 @@ pub struct Loop<'a, F: HubNames, G: Names, S: Sources, W: Watch> {
     pub(crate) ending: Ending,
     /// No more clients come, and none is left.
     pub(crate) is_leaving: bool,
+    /// Something is left of an old chapter.
+    pub(crate) is_dropping: bool,
     /// What is ready; its room is kept from one round to the next.
     ready: Vec<Ready<S::Client>>,
     /// For one read of a server.
@@ -139,6 +141,7 @@ impl<'a, F: HubNames, G: Names, S: Sources, W: Watch> Loop<'a, F, G, S, W> {
             limits,
             ending: Ending::Serving,
             is_leaving: false,
+            is_dropping: false,
             ready: Vec::new(alloc),
             room,
             now: None,
@@ -200,12 +203,16 @@ impl<'a, F: HubNames, G: Names, S: Sources, W: Watch> Loop<'a, F, G, S, W> {
         self.send_unsent();
         self.serve(rt);
         self.write_lines();
+        self.drop_pieces();
         Ok(self.look_at_end())
     }
 
     /// For how long nothing need be done before something is ready.
     fn patience(&self) -> Duration {
-        let is_busy = !self.clients.is_idle() || self.lines.unread() > 0 || self.is_turn_due();
+        let is_busy = !self.clients.is_idle()
+            || self.lines.unread() > 0
+            || self.is_turn_due()
+            || self.is_dropping;
         let ends_at = self.ending.next_moment(self.now);
         let pause = pause(self.ending);
         patience(is_busy, pause, self.now, self.late_at, ends_at)

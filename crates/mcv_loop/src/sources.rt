@@ -2,7 +2,7 @@
 
 use mcv_base::{Moment, ServerId};
 use mcv_connection::Connection;
-use mcv_hub::{Pass, Past};
+use mcv_hub::Pass;
 use mcv_turn::{HeldLeg, Performed, StoredLeg};
 use std::time::{Duration, Instant};
 use thiserror::Error;
@@ -80,9 +80,6 @@ pub trait Sources: Drop {
 
     /// This record is done.
     fn finish(&mut self, pass: &Pass, performed: Performed);
-
-    /// What is left of an old chapter is to be dropped, which takes a while where it is much.
-    fn discard(&mut self, pass: &Pass, past: Past);
 
     /// Seconds since 1970.
     fn moment(&mut self) -> Moment;

@@ -2,11 +2,15 @@
 
 use crate::main_loop::Loop;
 use crate::sources::Sources;
+use mcv_hub::Past;
 use mcv_hubs::{HubNames, Names};
 use mcv_spool::SpoolFault;
 use mcv_turn::{Arrival, Gives, HeldLeg, Marked, Performed, Refused, StoredLeg};
 use mcv_watch::{Shortage, Watch};
 use std::sync::Wait;
+
+/// So many bytes, asked for at once, have the allocator join the blocks that were freed before.
+const JOINS: usize = 2_048;
 
 /// Notes legs that have no reply.
 fn note_lost<W: Watch>(watch: &mut W, arrivals: &[Arrival]) {
@@ -136,7 +140,7 @@ impl<'a, F: HubNames, G: Names, S: Sources, W: Watch> Loop<'a, F, G, S, W> {
     }
 
     /// Puts legs into their connections, in their order, asks servers that were marked whether they answer, and hands out the record
-    /// that is to be written, those that are done and what is left of an old chapter.
+    /// that is to be written and those that are done.
     fn dispatch(&mut self, hub: usize, gives: Gives) {
         let Gives {
             flights,
@@ -152,12 +156,35 @@ impl<'a, F: HubNames, G: Names, S: Sources, W: Watch> Loop<'a, F, G, S, W> {
         self.send_all(hub);
         self.probe_newly_marked(hub, marks.as_slice());
         self.finish_all(performed);
-        if let Some(past) = past {
-            self.sources.discard(&self.pass, past);
-        }
+        self.leave_past(hub, past);
         if let Some(held) = held {
             self.store(hub, held);
         }
+    }
+
+    /// What is left of an old chapter is dropped piece by piece, one in each round.
+    fn leave_past(&mut self, hub: usize, past: Option<Past>) {
+        if let (Some(past), Some(post)) = (past, self.posts.get_mut(hub)) {
+            post.leave(past);
+        }
+    }
+
+    /// Drops a piece of what is left of the old chapter of each hub.
+    pub(crate) fn drop_pieces(&mut self) {
+        self.is_dropping = false;
+        for post in self.posts.as_mut_slice() {
+            let is_left = post.drop_piece();
+            self.is_dropping = self.is_dropping || is_left;
+        }
+        if self.is_dropping {
+            self.join_freed();
+        }
+    }
+
+    /// Takes room and gives it back. The system's allocator leaves small blocks that were freed apart until more than a kilobyte is
+    /// asked for, and joins all then: those of a chapter in 0.1 seconds.
+    fn join_freed(&self) {
+        drop(Vec::<u8>::with_capacity(self.alloc, JOINS));
     }
 
     /// Sends the legs that the last turn of a hub gave.

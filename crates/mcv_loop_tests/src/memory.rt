@@ -6,7 +6,7 @@ use crate::disk::MemoryDisk;
 use crate::server::Server;
 use mcv_base::{Moment, ServerId};
 use mcv_connection::Connection;
-use mcv_hub::{Pass, Past};
+use mcv_hub::Pass;
 use mcv_loop::{Ready, Source, SourceFault, Sources};
 use mcv_spool::{Spool, SpoolFault};
 use mcv_turn::{HeldLeg, Performed, StoredLeg};
@@ -521,10 +521,6 @@ impl Sources for Memory {
         if self.spool.done(performed.number()).is_ok() {
             self.finished = self.finished.saturating_add(1);
         }
-    }
-
-    fn discard(&mut self, _pass: &Pass, past: Past) {
-        drop(past);
     }
 
     fn moment(&mut self) -> Moment {

@@ -1,11 +1,10 @@
 //! What a loop and the spool's thread leave for each other.
 
-ghost use Rattle.std.specs.Prelude.{◌≡◌, ◌+◌, ◌<◌, ◌≤◌, [], ◌∷◌, ◌++◌, true, false, MatchOption, if◌then◌else◌};
+ghost use Rattle.std.specs.Prelude.{◌≡◌, ◌+◌, ◌<◌, ◌≤◌, [], ◌∷◌, ◌++◌, true, false, if◌then◌else◌};
 ghost use Rattle.std.specs.VecDeque.{deque_capacity, deque_len};
 ghost use Rattle.std.specs.Option.{option_to_list};
 ghost use Rattle.mcv_poll.specs.Letters.{TakesTask, tasks};
 
-use mcv_hub::Past;
 use mcv_turn::{HeldLeg, StoredLeg};
 use std::alloc::Global;
 use std::collections::VecDeque;
@@ -32,8 +31,6 @@ pub(crate) enum Task {
     Write(Record),
     /// Mark the record of this number as done.
     Finish(u64),
-    /// Drop what is left of an old chapter.
-    Discard(Past),
     /// End.
     End,
 }
@@ -45,8 +42,6 @@ pub(crate) struct Letters {
     records: VecDeque<Record>,
     /// The numbers of records that are done.
     performed: VecDeque<u64>,
-    /// What is left of old chapters.
-    past: VecDeque<Past>,
     /// What the spool answered. There is room for all answers that are owed.
     answers: VecDeque<Answer>,
     /// How many records were sent that aren't answered.
@@ -59,14 +54,13 @@ pub(crate) struct Letters {
 impl Letters {
     /// None. They take no memory.
     pub(crate) fn new(alloc: Global) -> Letters
-        ensures tasks { tasks result.records.items result.performed.items result.past.items ≡ [] }
+        ensures tasks { tasks result.records.items result.performed.items ≡ [] }
         ensures answers { result.answers.items ≡ [] }
         ensures goes_on { result.ends ≡ false }
     {
         Letters {
             records: VecDeque::new(alloc),
             performed: VecDeque::new(alloc),
-            past: VecDeque::new(alloc),
             answers: VecDeque::new(alloc),
             owed: 0,
             ends: false,
@@ -77,7 +71,7 @@ impl Letters {
     pub(crate) fn push_record(&mut self, leg: Record) -> bool
         ensures records { self.new.records.items ≡ if result then self.old.records.items ++ leg ∷ [] else self.old.records.items }
         ensures owed { self.new.owed ≡ if result then self.old.owed + 1 else self.old.owed }
-        ensures others { (self.new.performed ≡ self.old.performed) × (self.new.past ≡ self.old.past) × (self.new.ends ≡ self.old.ends) }
+        ensures others { (self.new.performed ≡ self.old.performed) × (self.new.ends ≡ self.old.ends) }
         ensures answers { self.new.answers.items ≡ self.old.answers.items }
     {
         let Some(owed) = self.owed.checked_add(1) else {
@@ -93,27 +87,15 @@ impl Letters {
     /// The record of this number is to be marked as done, behind those that are there. Without memory for that it isn't.
     pub(crate) fn push_performed(&mut self, number: u64) -> bool
         ensures performed { self.new.performed.items ≡ if result then self.old.performed.items ++ number ∷ [] else self.old.performed.items }
-        ensures others { (self.new.records ≡ self.old.records) × (self.new.past ≡ self.old.past) × (self.new.ends ≡ self.old.ends) }
+        ensures others { (self.new.records ≡ self.old.records) × (self.new.ends ≡ self.old.ends) }
         ensures answers { (self.new.answers ≡ self.old.answers) × (self.new.owed ≡ self.old.owed) }
     {
         self.performed.push_back(number).is_ok()
     }
 
-    /// What is left of an old chapter is to be dropped, behind what is there. It comes back where there is no memory for that.
-    pub(crate) fn push_past(&mut self, past: Past) -> Option<Past>
-        ensures past { MatchOption result (self.new.past.items ≡ self.old.past.items ++ past ∷ []) (λ p. (p ≡ past) × (self.new.past.items ≡ self.old.past.items)) }
-        ensures others { (self.new.records ≡ self.old.records) × (self.new.performed ≡ self.old.performed) × (self.new.ends ≡ self.old.ends) }
-        ensures answers { (self.new.answers ≡ self.old.answers) × (self.new.owed ≡ self.old.owed) }
-    {
-        match self.past.push_back(past) {
-            Ok(()) => None,
-            Err(refused) => Some(refused.value),
-        }
-    }
-
-    /// What is to be done next, if there is something: records that are to be written come first, and old chapters last.
+    /// What is to be done next, if there is something: records that are to be written come first.
     pub(crate) fn take_task(&mut self) -> Option<Task>
-        ensures first { TakesTask (tasks self.old.records.items self.old.performed.items self.old.past.items) self.old.ends result (tasks self.new.records.items self.new.performed.items self.new.past.items) }
+        ensures first { TakesTask (tasks self.old.records.items self.old.performed.items) self.old.ends result (tasks self.new.records.items self.new.performed.items) }
         ensures answers { (self.new.answers ≡ self.old.answers) × (self.new.owed ≡ self.old.owed) }
     {
         if let Some(record) = self.records.pop_front() {
@@ -122,16 +104,13 @@ impl Letters {
         if let Some(number) = self.performed.pop_front() {
             return Some(Task::Finish(number));
         }
-        if let Some(past) = self.past.pop_front() {
-            return Some(Task::Discard(past));
-        }
         if self.ends { Some(Task::End) } else { None }
     }
 
     /// The spool has answered, which is behind its earlier answers. There is room where it owed one.
     pub(crate) fn push_answer(&mut self, answer: Answer)
         ensures answers { 0 < self.old.owed → self.new.answers.items ≡ self.old.answers.items ++ answer ∷ [] }
-        ensures tasks { tasks self.new.records.items self.new.performed.items self.new.past.items ≡ tasks self.old.records.items self.old.performed.items self.old.past.items }
+        ensures tasks { tasks self.new.records.items self.new.performed.items ≡ tasks self.old.records.items self.old.performed.items }
     {
         if self.owed > 0 {
             self.answers.push_back_reserved(answer);
@@ -149,7 +128,7 @@ impl Letters {
     /// The answer that was given first, if there is one.
     pub(crate) fn take_answer(&mut self) -> Option<Answer>
         ensures first { self.old.answers.items ≡ option_to_list result ++ self.new.answers.items }
-        ensures tasks { tasks self.new.records.items self.new.performed.items self.new.past.items ≡ tasks self.old.records.items self.old.performed.items self.old.past.items }
+        ensures tasks { tasks self.new.records.items self.new.performed.items ≡ tasks self.old.records.items self.old.performed.items }
     {
         self.answers.pop_front()
     }
@@ -157,7 +136,7 @@ impl Letters {
     /// The thread is to end, once it has done what is to be done.
     pub(crate) fn end(&mut self)
         ensures ends { self.new.ends ≡ true }
-        ensures tasks { tasks self.new.records.items self.new.performed.items self.new.past.items ≡ tasks self.old.records.items self.old.performed.items self.old.past.items }
+        ensures tasks { tasks self.new.records.items self.new.performed.items ≡ tasks self.old.records.items self.old.performed.items }
     {
         self.ends = true;
     }

@@ -2,7 +2,6 @@
 
 use crate::letters::{Answer, Letters, Record, Task};
 use crate::tokens::WAKER;
-use mcv_hub::Past;
 use mcv_loop::Ready;
 use mcv_turn::HeldLeg;
 use mio::{Poll, Token, Waker};
@@ -50,13 +49,6 @@ impl Mailbox {
     pub(crate) fn finish<R: Wait>(&self, rt: &R, number: u64) {
         let _ = self.letters.lock(rt).push_performed(number);
         self.bell.notify_one();
-    }
-
-    /// What is left of an old chapter is to be dropped. Without memory to keep it in mind it is dropped at once.
-    pub(crate) fn discard<R: Wait>(&self, rt: &R, past: Past) {
-        let refused = self.letters.lock(rt).push_past(past);
-        self.bell.notify_one();
-        drop(refused);
     }
 
     /// Puts what the spool has answered behind `ready`, in its order. Without memory for that all of it stays.

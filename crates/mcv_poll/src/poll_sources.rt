@@ -9,7 +9,7 @@ use crate::server_stream::ServerStream;
 use crate::servers::{Attempt, Servers};
 use crate::tokens::{LISTENER, Tokens};
 use mcv_base::{Moment, ServerId};
-use mcv_hub::{Pass, Past};
+use mcv_hub::Pass;
 use mcv_loop::{Ready, Source, SourceFault, Sources};
 use mcv_turn::{HeldLeg, Performed};
 use mio::event::Event;
@@ -221,10 +221,6 @@ impl<R: Net + Clock + Wait + Copy + Drop, D: Door> Sources for PollSources<R, D>
 
     fn finish(&mut self, _pass: &Pass, performed: Performed) {
         self.mailbox.finish(&self.rt, performed.number());
-    }
-
-    fn discard(&mut self, _pass: &Pass, past: Past) {
-        self.mailbox.discard(&self.rt, past);
     }
 
     fn moment(&mut self) -> Moment {

@@ -71,7 +71,7 @@ fn mark_done<D: Disk>(spool: &mut Spool<D>, number: u64) {
     }
 }
 
-/// Writes records, marks those as done whose legs were performed, and drops what is left of old chapters, until it is to end. What
+/// Writes records, and marks those as done whose legs were performed, until it is to end. What
 /// the spool answers is left in the mailbox, in the order of the records, and wakes the loop. Where the spool refuses a record it is
 /// opened again if it has to be. It ends with the mailbox, whose letters no clause can name.
 pub fn serve_spool<D: Disk, R: Wait>(rt: &R, spool: &mut Spool<D>, mailbox: &Mailbox) {
@@ -79,7 +79,6 @@ pub fn serve_spool<D: Disk, R: Wait>(rt: &R, spool: &mut Spool<D>, mailbox: &Mai
         match mailbox.next(rt) {
             Task::Write(record) => write_record(rt, spool, mailbox, record),
             Task::Finish(number) => mark_done(spool, number),
-            Task::Discard(past) => drop(past),
             Task::End => return,
         }
     }

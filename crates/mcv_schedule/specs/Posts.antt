@@ -1,8 +1,9 @@
 -- What a loop has gathered for a hub (own).
-use Rattle.std.specs.Prelude.{◌≡◌, ◌-◌, ◌||◌, ◌⊎◌, Bool, true, false, ℕ, List, [], Option, Some, None, is_some, nat_eq, nat_le, not, vec_len, if◌then◌else◌}
+use Rattle.std.specs.Prelude.{◌≡◌, ◌-◌, ◌<◌, ◌≤◌, ◌||◌, ◌⊎◌, Bool, true, false, ℕ, List, [], Option, Some, None, is_some, nat_eq, nat_le, not, take, vec_len, if◌then◌else◌}
 use Rattle.std.specs.Time.{instant_nanos}
 use Rattle.std.specs.declared.time.Instant.{Instant}
 use Rattle.mcv_base.specs.declared.request.Moment.{Moment}
+use Rattle.mcv_hub.specs.declared.history.Past.{Past}
 use Rattle.mcv_turn.specs.declared.came.Came.{Came}
 use Rattle.mcv_turn.specs.declared.flight.Flight.{Flight}
 use Rattle.mcv_schedule.specs.SpoolState.{may_ask}
@@ -22,7 +23,7 @@ pub record IsNew (p : Post) : Type 0 where
   pub wants : (p.is_wanted ≡ false) × (p.replays ≡ false) × (p.counts ≡ false)
   pub spool : (p.spool ≡ Taking) × (p.is_writing ≡ false)
   pub waits : (p.waits_since ≡ None) × (p.vain_waits ≡ never)
-  pub queued : p.queued ≡ 0
+  pub queued : (p.queued ≡ 0) × (p.past ≡ None)
 
 -- a turn is wanted, legs are to be sent again, or something came
 abbrev pub is_due : Post → Bool
@@ -50,13 +51,19 @@ pub record IsTaken (before : Post) (moment : Moment) (now : Option Instant) (cam
   pub nothing : HasNothing after
   pub wants : (after.is_wanted ≡ false) × (after.replays ≡ false) × (after.counts ≡ false)
   pub waits : (after.waits_since ≡ before.waits_since) × (after.vain_waits ≡ waits_by before now)
-  pub keeps : (after.unsent ≡ before.unsent) × (after.spool ≡ before.spool) × (after.is_writing ≡ before.is_writing) × (after.queued ≡ before.queued)
+  pub keeps : (after.unsent ≡ before.unsent) × (after.spool ≡ before.spool) × (after.is_writing ≡ before.is_writing) × (after.queued ≡ before.queued) × (after.past ≡ before.past)
 
 -- since when requests wait to begin
 abbrev pub waiting_since : (waits : Bool) → (before now : Option Instant) → Option Instant
 waiting_since false before now = None
 waiting_since true None now = now
 waiting_since true (Some since) now = Some since
+
+-- up to 4,096 entries, the last ones, are dropped; whether some are left is told
+abbrev pub IsShortened : (before : Option Past) → (left : Bool) → (after : Option Past) → Type 0
+IsShortened None left after = (left ≡ false) × (after ≡ None)
+IsShortened (Some p) left None = (left ≡ false) × (vec_len p.entries ≤ 4_096)
+IsShortened (Some p) left (Some q) = (left ≡ true) × (4_096 < vec_len p.entries) × (q.entries.items ≡ take (vec_len p.entries - 4_096) p.entries.items)
 
 -- all legs that weren't sent are given, in their order, and none is left; or none is given, and all are left
 abbrev pub GivesUnsent : (before given left : List Flight) → Type 0

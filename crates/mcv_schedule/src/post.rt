@@ -1,7 +1,7 @@
 //! What a loop has gathered for one hub since its last turn there, and what it knows of the hub since then.
 
 ghost use Rattle.std.specs.Prelude.{◌≡◌, ◌+◌, ◌||◌, ◌≤◌, Some, false, is_err, vec_capacity, vec_len};
-ghost use Rattle.mcv_schedule.specs.Posts.{GivesUnsent, IsNew, IsTaken, is_due, is_second_over, waiting_since};
+ghost use Rattle.mcv_schedule.specs.Posts.{GivesUnsent, IsNew, IsShortened, IsTaken, is_due, is_second_over, waiting_since};
 ghost use Rattle.mcv_schedule.specs.SpoolState.{IsAnswered, asked_again, refuses};
 ghost use Rattle.mcv_schedule.specs.VainWaits.{seen};
 
@@ -9,6 +9,7 @@ use crate::deadlines::TICK;
 use crate::spool_state::SpoolState;
 use crate::vain_waits::VainWaits;
 use mcv_base::{Moment, ServerId};
+use mcv_hub::Past;
 use mcv_turn::{Arrival, Came, Flight, StoredLeg};
 use mcv_watch::Load;
 use std::alloc::Global;
@@ -42,7 +43,12 @@ pub struct Post {
     vain_waits: VainWaits,
     /// How many legs were queued at the end of the last turn.
     pub queued: usize,
+    /// What is left of its last chapter.
+    past: Option<Past>,
 }
+
+/// The most entries of an old chapter that are dropped in a row.
+const PIECE: usize = 4_096;
 
 /// Whether a second or more has passed since a moment.
 fn is_second_over(since: Option<Instant>, now: Option<Instant>) -> bool
@@ -74,6 +80,7 @@ impl Post {
             waits_since: None,
             vain_waits: VainWaits::new(),
             queued: 0,
+            past: None,
         }
     }
 
@@ -137,6 +144,28 @@ impl Post {
     {
         self.is_wanted = self.is_wanted || self.spool.refuses();
         self.spool = self.spool.asked_again();
+    }
+
+    /// What is left of the hub's last chapter is to be dropped, piece by piece. What was left of an earlier one is dropped at once.
+    pub fn leave(&mut self, past: Past)
+        ensures { self.new ≡ record self.old { past = Some past } }
+    {
+        self.past = Some(past);
+    }
+
+    /// Drops a piece of what is left of the last chapter: at most 4,096 entries. Whether some are left.
+    pub fn drop_piece(&mut self) -> bool
+        ensures piece { IsShortened self.old.past result self.new.past }
+        ensures keeps { self.new ≡ record self.old { past = self.new.past } }
+    {
+        let Some(mut past) = self.past.take() else {
+            return false;
+        };
+        if past.shorten(PIECE) == 0 {
+            return false;
+        }
+        self.past = Some(past);
+        true
     }
 
     /// The legs that the last turn gave, with room to report each of them as lost. Without memory for that they stay, and none is given.
